@@ -1,0 +1,148 @@
+"""The files a seed stands for: call files with their starts, and records.
+
+Each file follows from the seed and its own index alone, so the first files of
+a large set are the files of a small one.
+"""
+
+from __future__ import annotations
+
+from typing import List, NamedTuple, Optional, Tuple
+
+from actions import call, start_timer_on, timers_in
+from book import Book
+from chance import Chance, chance_for
+from damage import break_sound
+from damage_bytes import FORM_DAMAGE, blind_damage
+from layout import Record, bytes_of
+from make_records import (
+    deep_record, laid_out_record, started_record, stopped_record,
+)
+from record import load
+from rows import ROW
+from rules import FORM_NAMES, SOUND_NAMES, all_broken_sound, broken_rule
+from walks import TASTES, Walk
+from words import LONGEST_LENGTH, MICROSECONDS_PER_TICK, TICK, Answer
+
+CALLS_PURPOSE, RECORDS_PURPOSE = 1, 2
+RULE_NAMES: Tuple[str, ...] = FORM_NAMES + SOUND_NAMES
+
+# A rule that breaks another with it cannot be broken alone: a thread that
+# runs while stopped is also one that is not ready.
+NEVER_ALONE = ("sound-none-running",)
+TRIES_ALONE, TRIES = 60, 2_000
+
+# Few files are that long: one alone has as many rows as hundreds of others.
+LONG_EVERY, LONG_PARTS = 1_000, 15
+LONG_LENGTHS = (65_535, 65_535, 65_534, 65_473, 65_472, 32_768, 4_096)
+
+
+class CallFile(NamedTuple):
+    """The rows of a call file, the record it begins at, and the answers."""
+
+    rows: bytes
+    start: Optional[bytes]
+    answers: List[Answer]
+
+
+def sound_record(chance: Chance, seed: int) -> Record:
+    """A sound record of any kind."""
+    if chance.percent(50):
+        return deep_record(chance, seed)
+    return laid_out_record(chance)
+
+
+def base_for(chance: Chance, seed: int, name: str) -> Record:
+    """A sound record in which a rule is likely to find what it breaks."""
+    if name == "sound-none-running" or name.startswith("sound-stopped"):
+        return stopped_record(chance)
+    if chance.percent(50):
+        return deep_record(chance, seed)
+    return started_record(chance)
+
+
+def breaking(chance: Chance, seed: int, name: str) -> bytes:
+    """A record of which this rule is the first broken, if it can be alone."""
+    for attempt in range(TRIES):
+        record = base_for(chance, seed, name)
+        if name in FORM_NAMES:
+            data = FORM_DAMAGE[name](chance, bytes_of(record))
+        elif break_sound(chance, record, name):
+            data = bytes_of(record)
+            alone = all_broken_sound(record) == [name]
+            if attempt < TRIES_ALONE and not alone and name not in NEVER_ALONE:
+                continue
+        else:
+            continue
+        if broken_rule(data) == name:
+            return data
+    raise RuntimeError("no record found that breaks " + name)
+
+
+def make_record(seed: int, index: int) -> bytes:
+    """The record file of this index: of ten, four sound and six damaged."""
+    chance = chance_for(seed, RECORDS_PURPOSE, index)
+    kind = index % 10
+    if kind < 2:
+        return bytes_of(deep_record(chance, seed))
+    if kind == 2:
+        return bytes_of(started_record(chance))
+    if kind == 3:
+        return bytes_of(laid_out_record(chance))
+    if kind < 7:
+        name = RULE_NAMES[(index // 10 * 3 + kind - 4) % len(RULE_NAMES)]
+        return breaking(chance, seed, name)
+    return blind_damage(chance, bytes_of(sound_record(chance, seed)))
+
+
+def some_start(chance: Chance, seed: int) -> Optional[bytes]:
+    """A record to begin at, for a share of the call files."""
+    way = chance.below(100)
+    if way < 55:
+        return None
+    if way < 75:
+        return bytes_of(deep_record(chance, seed))
+    if way < 95:
+        return bytes_of(laid_out_record(chance))
+    return blind_damage(chance, bytes_of(sound_record(chance, seed)))
+
+
+def part_row(chance: Chance) -> bytes:
+    """A row cut short: of a call, of zeros or of anything."""
+    length = chance.between(1, ROW - 1)
+    head = bytes((chance.between(1, 13),)) + bytes(ROW - 1)
+    return chance.pick(
+        (head[:length], bytes(length), chance.some_bytes(length))
+    )
+
+
+def long_walk(chance: Chance) -> Walk:
+    """A walk long enough for the longest timers to come due on their way."""
+    taste = next(taste for taste in TASTES if taste.name == "timer")
+    walk = Walk(chance, taste, Book())
+    walk.begin()
+    for length in LONG_LENGTHS:
+        walk.do(start_timer_on(
+            walk, timers_in(walk, True), length * MICROSECONDS_PER_TICK
+        ) or b"")
+    for _ in range(LONG_PARTS):
+        walk.do(call(TICK) * (LONGEST_LENGTH // LONG_PARTS + 1))
+        walk.go(3)
+    return walk
+
+
+def make_call_file(seed: int, index: int) -> CallFile:
+    """The call file of this index, with its start if it has one."""
+    chance = chance_for(seed, CALLS_PURPOSE, index)
+    if index % LONG_EVERY == LONG_EVERY // 2:
+        walk = long_walk(chance)
+        return CallFile(bytes(walk.rows), None, walk.answers)
+    start = some_start(chance, seed)
+    book = Book() if start is None else load(start)[1]
+    walk = Walk(chance, chance.pick(TASTES), book)
+    if not chance.percent(3):
+        if not book.started and chance.percent(95):
+            walk.begin()
+        walk.go(chance.pick((0, 40, 150, 300, 400, chance.below(500))))
+    if chance.percent(12):
+        walk.do(part_row(chance))
+    return CallFile(bytes(walk.rows), start, walk.answers)

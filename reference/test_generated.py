@@ -1,0 +1,301 @@
+"""Tests on generated files: what always holds, and what the files must meet.
+
+What holds is looked up in the bytes of the saved record before and after each
+row, not in the book, so that a mistake in the book cannot hide itself.
+"""
+
+from __future__ import annotations
+
+import unittest
+from functools import lru_cache
+from typing import Dict, List, Tuple
+
+from actions import leads_to
+from book import Book
+from chance import Chance, chance_for
+from layout import Record, bytes_of, record_of
+from make_files import (
+    NEVER_ALONE, CallFile, make_call_file, make_record,
+)
+from make_records import (
+    deep_record, laid_out_record, started_record, stopped_record,
+)
+from record import load, save
+from rows import answer_row, take_apart
+from rules import (
+    FORM_NAMES, SOUND_NAMES, all_broken_sound, broken_form, broken_rule,
+)
+from words import NONE, Answer
+
+SEED = 2_024
+FILES = 200
+FOLLOWED = 50
+RECORDS = 700
+
+
+@lru_cache(maxsize=None)
+def call_files() -> Tuple[CallFile, ...]:
+    """The call files all tests here look at."""
+    return tuple(make_call_file(SEED, index) for index in range(FILES))
+
+
+@lru_cache(maxsize=None)
+def records() -> Tuple[bytes, ...]:
+    """The records all tests here look at."""
+    return tuple(make_record(SEED, index) for index in range(RECORDS))
+
+
+def begin(made: CallFile) -> Book:
+    """The book a call file begins with."""
+    return Book() if made.start is None else load(made.start)[1]
+
+
+def rows_of(made: CallFile) -> List[bytes]:
+    """The rows of a call file, the last one perhaps cut short."""
+    return [
+        made.rows[offset:offset + 8] for offset in range(0, len(made.rows), 8)
+    ]
+
+
+def waiting_on(record: Record, identity: int) -> int:
+    """How many threads wait on a condition variable."""
+    return sum(
+        thread.state == 4 and thread.waited_for == identity
+        for thread in record.threads
+    )
+
+
+def given_by(before: Record, row: bytes) -> int:
+    """What an accepted row has to give, from the record before it."""
+    created: Dict[int, int] = {
+        2: len(before.threads), 3: len(before.mutexes),
+        4: len(before.condition_variables), 5: len(before.timers),
+    }
+    if row[0] in created:
+        return created[row[0]]
+    if row[0] == 9:
+        return min(waiting_on(before, row[1]), 1)
+    if row[0] == 10:
+        return waiting_on(before, row[1])
+    if row[0] == 13:
+        return sum(timer.left == 1 for timer in before.timers)
+    return NONE
+
+
+class Stream(unittest.TestCase):
+    """The stream of numbers behind the files."""
+
+    def test_known_words(self) -> None:
+        """The first words of splitmix64 for seed 0, as published with it."""
+        chance = Chance(0)
+        self.assertEqual(
+            [chance.word() for _ in range(3)],
+            [0xE220A8397B1DCDAF, 0x6E789E6AA1B965F4, 0x06C45D188009454F],
+        )
+
+    def test_ranges(self) -> None:
+        """Numbers stay in their limits and meet both of them."""
+        chance = Chance(1)
+        found = {chance.between(3, 6) for _ in range(200)}
+        self.assertEqual(found, {3, 4, 5, 6})
+        self.assertEqual(sorted(chance.shuffled(range(9))), list(range(9)))
+
+    def test_files_follow_from_seed_and_index(self) -> None:
+        """The same index gives the same file, another seed another one."""
+        later = make_call_file(SEED, 7)
+        earlier = make_call_file(SEED, 3)
+        self.assertEqual(make_call_file(SEED, 7), later)
+        self.assertEqual(make_call_file(SEED, 3), earlier)
+        self.assertNotEqual(
+            [make_record(SEED, index) for index in range(20)],
+            [make_record(SEED + 1, index) for index in range(20)],
+        )
+
+
+class CallFiles(unittest.TestCase):
+    """Generated call files."""
+
+    def test_every_answer_is_met(self) -> None:
+        """Each answer number a row can get is met."""
+        met = {
+            answer.answer for made in call_files() for answer in made.answers
+        }
+        self.assertEqual(met, {0} | set(range(2, 15)) | {17})
+
+    def test_shapes(self) -> None:
+        """Empty files, part rows, starts and refused starts are met."""
+        made = call_files()
+        self.assertTrue(any(not one.rows for one in made))
+        self.assertEqual(
+            {len(one.rows) % 8 for one in made}, set(range(8))
+        )
+        answers = {
+            load(one.start)[0] for one in made if one.start is not None
+        }
+        self.assertEqual(answers, {0, 1, 15})
+        self.assertTrue(any(one.start is None for one in made))
+
+    def test_deep_states_are_met(self) -> None:
+        """Rings, crowds, many expired at once, the round, marks below 0."""
+        met = {name: 0 for name in (
+            "ring", "mutex", "broadcast", "expired", "round", "mark", "nested",
+        )}
+        for made in call_files():
+            book = begin(made)
+            for row in rows_of(made):
+                before = book.tick_count
+                answer = answer_row(book, row)
+                self.note(met, book, row, answer)
+                crossed = before // 2 ** 32 != book.tick_count // 2 ** 32
+                met["round"] += crossed
+        for name, count in met.items():
+            self.assertGreater(count, 0, name)
+
+    def note(
+        self, met: Dict[str, int], book: Book, row: bytes, answer: Answer
+    ) -> None:
+        """Count what the state after a row shows."""
+        if answer.answer != 0:
+            return
+        waited = [
+            thread.waited_for for thread in book.threads if thread.state == 3
+        ]
+        met["ring"] += any(
+            thread.state == 3 and leads_to(book, identity, identity)
+            for identity, thread in enumerate(book.threads)
+        )
+        met["mutex"] += any(waited.count(mutex) >= 6 for mutex in waited)
+        met["broadcast"] += row[0] == 10 and answer.given >= 5
+        met["expired"] += row[0] == 13 and answer.given >= 3
+        met["mark"] += any(thread.mark < 0 for thread in book.threads)
+        owners = [mutex.owner for mutex in book.mutexes if mutex.owner != NONE]
+        met["nested"] += any(owners.count(owner) >= 3 for owner in owners)
+
+    def test_what_holds_after_each_row(self) -> None:
+        """The saved record before and after each row explains the answer."""
+        followed = 0
+        for made in call_files()[:FOLLOWED]:
+            book = begin(made)
+            before = save(book)
+            for row in rows_of(made):
+                answer = answer_row(book, row)
+                after = save(book)
+                self.holds(before, row, answer, after)
+                before = after
+                followed += 1
+        self.assertGreater(followed, 1_000)
+
+    def holds(
+        self, before: bytes, row: bytes, answer: Answer, after: bytes
+    ) -> None:
+        """What has to hold for one row."""
+        self.assertIsNone(broken_rule(after))
+        old, new = record_of(before), record_of(after)
+        self.one_runs(new, answer)
+        if answer.answer != 0:
+            self.assertEqual(after, before)
+            self.assertEqual(answer.given, NONE)
+            self.assertEqual(
+                answer.answer == 17, take_apart(row) is None
+            )
+            return
+        self.assertEqual(answer.given, given_by(old, row))
+        counted = (new.tick_count - old.tick_count) % 2 ** 32
+        self.assertEqual(counted, 1 if row[0] == 13 else 0)
+        self.assertEqual(
+            [thread.base for thread in new.threads][:len(old.threads)],
+            [thread.base for thread in old.threads],
+        )
+        if row[0] not in (11, 12, 13):
+            self.assertEqual(new.timers[:len(old.timers)], old.timers)
+
+    def one_runs(self, record: Record, answer: Answer) -> None:
+        """Exactly the answered thread runs, and none ready is above it."""
+        running = [
+            identity for identity, thread in enumerate(record.threads)
+            if thread.state == 2
+        ]
+        if record.started == 0:
+            self.assertEqual((running, answer.running), ([], NONE))
+            return
+        self.assertEqual(running, [answer.running])
+        priorities = record.priorities()
+        for identity, thread in enumerate(record.threads):
+            if thread.state == 1:
+                self.assertLessEqual(
+                    priorities[identity], priorities[answer.running]
+                )
+
+    def test_saving_on_the_way_changes_nothing(self) -> None:
+        """Going on from a saved and loaded book gives the same."""
+        stops = 0
+        for index, made in enumerate(call_files()[:FOLLOWED]):
+            straight, stopping = begin(made), begin(made)
+            for number, row in enumerate(rows_of(made)):
+                if number % 5 == index % 5:
+                    answer, stopping = load(save(stopping))
+                    self.assertEqual(answer, 0)
+                    stops += 1
+                self.assertEqual(
+                    answer_row(stopping, row), answer_row(straight, row)
+                )
+            self.assertEqual(save(stopping), save(straight))
+        self.assertGreater(stops, 500)
+
+
+class Records(unittest.TestCase):
+    """Generated records."""
+
+    def test_every_rule_is_met(self) -> None:
+        """Each rule is the first broken one somewhere; sound ones are met."""
+        met = {broken_rule(data) for data in records()}
+        self.assertEqual(met, set(FORM_NAMES) | set(SOUND_NAMES) | {None})
+
+    def test_rules_are_broken_alone(self) -> None:
+        """Each sound rule that can be is somewhere the only broken one."""
+        alone: List[str] = []
+        for data in records():
+            if broken_form(data) is None:
+                broken = all_broken_sound(record_of(data))
+                alone += broken if len(broken) == 1 else []
+        self.assertEqual(set(alone), set(SOUND_NAMES) - set(NEVER_ALONE))
+
+    def test_sound_records_save_to_the_same_bytes(self) -> None:
+        """Whatever loads saves to the bytes it came from."""
+        loaded = 0
+        for data in records():
+            answer, book = load(data)
+            if answer == 0:
+                self.assertEqual(save(book), data)
+                loaded += 1
+            else:
+                self.assertEqual(book, Book())
+        self.assertGreater(loaded, 100)
+
+    def test_laid_out_records_are_sound(self) -> None:
+        """What is meant to be sound is, stopped or started."""
+        started: Tuple[int, ...] = ()
+        for index in range(150):
+            chance = chance_for(SEED, 9, index)
+            for record in (
+                started_record(chance), stopped_record(chance),
+                laid_out_record(chance), deep_record(chance, SEED),
+            ):
+                self.assertIsNone(broken_rule(bytes_of(record)))
+                started += (record.started,)
+        self.assertEqual(set(started), {0, 1})
+
+    def test_stopped_states_have_things_in_them(self) -> None:
+        """Some stopped records hold threads, mutexes, and all the rest."""
+        found = 0
+        for data in records():
+            if broken_rule(data) is None:
+                record = record_of(data)
+                found += record.started == 0 and len(record.threads) > 2 and (
+                    len(record.mutexes) > 0 and len(record.timers) > 0
+                )
+        self.assertGreater(found, 0)
+
+
+if __name__ == "__main__":
+    unittest.main()
