@@ -83,3 +83,12 @@ self n = eq-eqb n n refl
 pub cond-same : {X : Type 0} (b : Bool) (x : X) → cond b x x ≡ x
 cond-same true x = refl
 cond-same false x = refl
+
+-- the value for a test that is known
+pub cond-true : {X : Type 0} (b : Bool) (x y : X) → b ≡ true → cond b x y ≡ x
+cond-true true x y e = refl
+cond-true false x y e = absurd (false≢true e)
+
+pub cond-false : {X : Type 0} (b : Bool) (x y : X) → b ≡ false → cond b x y ≡ y
+cond-false true x y e = absurd (true≢false e)
+cond-false false x y e = refl

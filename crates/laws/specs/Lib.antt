@@ -1,1 +1,4 @@
 pub mod Bools
+pub mod Lists
+pub mod Bits
+pub mod Tables

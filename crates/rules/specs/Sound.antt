@@ -45,13 +45,13 @@ implies a b = not a || b
 -- ---- the limits
 
 -- the numbers of document 01's first table
-abbrev pub withinLimits : Rows → ℕ → List Timer → Bool
-withinLimits k count ts = all
-    (not (outside 1 32 (length (k .threads)))
+abbrev pub limits : Rows → ℕ → List Timer → List Bool
+limits k count ts =
+    not (outside 1 32 (length (k .threads)))
     ∷ leb (length (k .mutexes)) 16
     ∷ leb (length (k .ties)) 16
     ∷ leb (length ts) 32
-    ∷ ltb count 4294967296 ∷ [])
+    ∷ ltb count 4294967296 ∷ []
 
 -- ---- the clauses over the rows
 
@@ -67,11 +67,14 @@ ceilingsSound k = each (length (k .mutexes)) (λ m. not (outside 1 15 (mutex k m
 abbrev pub idleSound : Rows → Bool
 idleSound k = not (waits (thread k 0 .stands)) && eqb (owned (k .mutexes) 0) 0
 
--- one thread running if started, none if stopped, and none ready above it
+-- one thread running if started, none if stopped
 abbrev pub runnerSound : Rows → Bool
 runnerSound k = each (length (k .threads)) (λ t. eqb (cond (at k running t) 1 0) (cond (k .started && eqb t (k .runner)) 1 0))
     && cond (k .started) (ltb (k .runner) (length (k .threads))) (eqb (k .runner) 255)
-    && each (length (k .threads)) (λ t. implies (k .started && at k ready t) (leb (priority k t) (priority k (k .runner))))
+
+-- and none ready above it
+abbrev pub noneAbove : Rows → Bool
+noneAbove k = each (length (k .threads)) (λ t. implies (k .started && at k ready t) (leb (priority k t) (priority k (k .runner))))
 
 -- the object waited for exists
 abbrev pub exists : Rows → Where → Bool
@@ -127,23 +130,27 @@ noneGoes [] = true
 noneGoes (x ∷ xs) = not (goes (x .state)) && noneGoes xs
 
 -- while stopped all threads are ready, nothing is owned, no timer runs, the count is 0
-abbrev pub stoppedSound : Rows → ℕ → List Timer → Bool
-stoppedSound k count ts =
-    each (length (k .threads)) (at k ready) && each (length (k .mutexes)) (λ m. eqb (mutex k m .owner) 255) && noneGoes ts && eqb count 0
+abbrev pub rest : Rows → ℕ → List Timer → List Bool
+rest k count ts =
+    each (length (k .threads)) (at k ready)
+    ∷ each (length (k .mutexes)) (λ m. eqb (mutex k m .owner) 255)
+    ∷ noneGoes ts
+    ∷ eqb count 0 ∷ []
 
--- all the clauses over the rows
-unfoldable pub rowsSound : Rows → ℕ → List Timer → Bool
-rowsSound k count ts = all
-    (withinLimits k count ts
+-- all the clauses over the rows, in the document's order
+abbrev pub clauses : Rows → ℕ → List Timer → List Bool
+clauses k count ts =
+    all (limits k count ts)
     ∷ basesSound k
     ∷ ceilingsSound k
     ∷ idleSound k
     ∷ runnerSound k
+    ∷ noneAbove k
     ∷ objectsSound k
     ∷ mutexesSound k
     ∷ conditionsSound k
     ∷ timersSound k ts
-    ∷ (k .started || stoppedSound k count ts) ∷ [])
+    ∷ implies (not (k .started)) (all (rest k count ts)) ∷ []
 
 -- ---- the queues
 
@@ -154,13 +161,14 @@ holds k w qs = eqb (length qs) 16
     && each (length (k .threads)) (λ t. implies (at k w t) (mem t (queue qs (priority k t))))
 
 -- the ready set, each mutex's and each condition variable's
-unfoldable pub queuesSound : Rows → Sets → Bool
-queuesSound k s = all
-    (holds k ready (setAt s ready)
+abbrev pub queueClauses : Rows → Sets → List Bool
+queueClauses k s =
+    holds k ready (setAt s ready)
     ∷ eqb (length (s .mutex)) (length (k .mutexes))
     ∷ each (length (k .mutexes)) (λ m. holds k (forMutex m) (setAt s (forMutex m)))
     ∷ eqb (length (s .condition)) (length (k .ties))
-    ∷ each (length (k .ties)) (λ c. holds k (onCondition c) (setAt s (onCondition c))) ∷ [])
+    ∷ each (length (k .ties)) (λ c. holds k (onCondition c) (setAt s (onCondition c))) ∷ []
 
+-- a sound state: its rows are sound, and its queues hold what the rows say
 unfoldable pub sound : State → Bool
-sound s = rowsSound (s .scheduler .rows) (s .count) (s .timers) && queuesSound (s .scheduler .rows) (s .scheduler .sets)
+sound s = all (clauses (s .scheduler .rows) (s .count) (s .timers)) && all (queueClauses (s .scheduler .rows) (s .scheduler .sets))

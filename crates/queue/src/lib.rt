@@ -1,0 +1,188 @@
+// Queues of threads, linked by index: each queue has its first and its last thread, 255 for none, and all threads together
+// have one array of links. An operation takes the links and one queue and hands both back, so that no caller copies all queues to touch one.
+// A thread's id or an end of 32 or more is no thread: nothing is stored there.
+ghost use mathlib.Core.Path.{_≡_};
+ghost use Rattle.queue.specs.Models.{emptyQueue, emptyLinks, emptyQueues, firstModel, backModel, frontModel, leaveModel, readModel, lineOf, levelModel, withLevelModel, highestModel};
+
+// The first and the last thread of a queue, 255 and 255 where it is empty.
+pub struct Queue {
+    pub first: u8,
+    pub last: u8,
+}
+
+// The thread that follows each thread in its queue, 255 for the last of a queue and for a thread that stands in none.
+pub struct Links {
+    pub next: [u8; 32],
+}
+
+// What an operation hands back: the links, and the one queue that it was about.
+pub struct Linked {
+    pub links: Links,
+    pub queue: Queue,
+}
+
+// The threads of one queue in their order: the first `count` entries, and 255 in the others.
+pub struct Line {
+    pub ids: [u8; 32],
+    pub count: u8,
+}
+
+// One queue for each of the 16 priorities.
+pub struct Queues {
+    pub levels: [Queue; 16],
+}
+
+impl Queue {
+    pub fn empty() -> Self
+        ensures { λ r. ⌜ r ≡ emptyQueue ⌝ }
+    {
+        Queue {
+            first: 255,
+            last: 255,
+        }
+    }
+
+    // The first thread, 255 where there is none.
+    pub fn first(self) -> u8
+        ensures { λ r. ⌜ r ≡ firstModel self ⌝ }
+    {
+        self.first
+    }
+}
+
+impl Links {
+    // No thread stands in any queue.
+    pub fn empty() -> Self
+        ensures { λ r. ⌜ r ≡ emptyLinks ⌝ }
+    {
+        let next = [255u8; 32];
+        Links { next }
+    }
+
+    // Thread t arrives at the back.
+    pub fn back(mut self, queue: Queue, t: u8) -> Linked
+        ensures { λ r. ⌜ r ≡ backModel self queue t ⌝ }
+    {
+        if 32 <= t {
+            return Linked { links: self, queue };
+        }
+        let first = queue.first;
+        let last = queue.last;
+        if last < 32 {
+            let i = last as usize;
+            self.next[i] = t;
+            let queue = Queue { first, last: t };
+            return Linked { links: self, queue };
+        }
+        let queue = Queue { first: t, last: t };
+        Linked { links: self, queue }
+    }
+
+    // Thread t arrives at the front.
+    pub fn front(mut self, queue: Queue, t: u8) -> Linked
+        ensures { λ r. ⌜ r ≡ frontModel self queue t ⌝ }
+    {
+        if 32 <= t {
+            return Linked { links: self, queue };
+        }
+        let first = queue.first;
+        let last = queue.last;
+        let i = t as usize;
+        self.next[i] = first;
+        if first < 32 {
+            let queue = Queue { first: t, last };
+            return Linked { links: self, queue };
+        }
+        let queue = Queue { first: t, last: t };
+        Linked { links: self, queue }
+    }
+
+    // The first thread leaves; an empty queue is left as it is.
+    pub fn leave(mut self, queue: Queue) -> Linked
+        ensures { λ r. ⌜ r ≡ leaveModel self queue ⌝ }
+    {
+        let first = queue.first;
+        let last = queue.last;
+        if 32 <= first {
+            return Linked { links: self, queue };
+        }
+        let i = first as usize;
+        let after = self.next[i];
+        self.next[i] = 255;
+        if after < 32 {
+            let queue = Queue { first: after, last };
+            return Linked { links: self, queue };
+        }
+        let queue = Queue::empty();
+        Linked { links: self, queue }
+    }
+
+    // The threads of a queue, along the links, at most 32 steps.
+    pub fn read(self, queue: Queue) -> Line
+        ensures { λ r. ⌜ r ≡ lineOf (readModel self queue) ⌝ }
+    {
+        let mut ids = [255u8; 32];
+        let mut count: u8 = 0;
+        let mut t = queue.first;
+        while count < 32 {
+            if 32 <= t {
+                return Line { ids, count };
+            }
+            let i = count as usize;
+            ids[i] = t;
+            let j = t as usize;
+            t = self.next[j];
+            count += 1;
+        }
+        Line { ids, count }
+    }
+}
+
+impl Queues {
+    pub fn empty() -> Self
+        ensures { λ r. ⌜ r ≡ emptyQueues ⌝ }
+    {
+        let q = Queue::empty();
+        let levels = [q; 16];
+        Queues { levels }
+    }
+
+    // The queue of priority p; past 15 an empty one.
+    pub fn level(self, p: u8) -> Queue
+        ensures { λ r. ⌜ r ≡ levelModel self p ⌝ }
+    {
+        if p < 16 {
+            let i = p as usize;
+            return self.levels[i];
+        }
+        Queue::empty()
+    }
+
+    // The queue of priority p is q; past 15 nothing is stored.
+    pub fn with_level(mut self, p: u8, q: Queue) -> Self
+        ensures { λ r. ⌜ r ≡ withLevelModel self p q ⌝ }
+    {
+        if p < 16 {
+            let i = p as usize;
+            self.levels[i] = q;
+        }
+        self
+    }
+
+    // The highest priority whose queue is not empty, 16 for none.
+    pub fn highest(self) -> u8
+        ensures { λ r. ⌜ r ≡ highestModel self ⌝ }
+    {
+        let mut passed: u8 = 0;
+        while passed < 16 {
+            let p = 15 - passed;
+            let i = p as usize;
+            let q = self.levels[i];
+            if q.first < 32 {
+                return p;
+            }
+            passed += 1;
+        }
+        16
+    }
+}

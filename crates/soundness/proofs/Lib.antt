@@ -1,0 +1,12 @@
+pub mod Tests
+pub mod Fits
+pub mod Rows
+pub mod Facts
+pub mod Moves
+pub mod Next
+pub mod Calls
+pub mod Creating
+pub mod Timers
+pub mod Keeping
+pub mod Holding
+pub mod Tested

@@ -1,0 +1,46 @@
+-- A wheel filled from a row of ticks left: starting each timer in turn, from a wheel with every timer stopped, hangs the row.
+-- Assumes nothing.
+use Prim.Native.Nat.{ℕ, suc, _<_, _%_}
+use mathlib.Core.Path.{_≡_, refl, sym, _∙_}
+use mathlib.Core.Bool.{Bool, cond}
+use mathlib.Core.List.{List}
+use native.Mathlib.Omega.{arith}
+use lib.ListN.{length, getD}
+use lib.Seq.{ext-getD}
+use lib.Dec.{eqb, ltb}
+use borrow.Author.Tests.{eqb-true, eqb-false, lt-ltb, le-ltb}
+use Rattle.laws.specs.Bools.{by-cases}
+use Rattle.wheel.specs.Hung.{Hung, left, empty, withLeft, started}
+use Rattle.wheel.specs.Wheels.{table}
+use Rattle.wheel.proofs.Tables.{table-at, table-length}
+use Rattle.wheel.proofs.Visits.{unchanged, changed, at-k}
+
+-- the ticks left of a timer of the row if it is seen, and none if not
+abbrev given : List ℕ → Bool → ℕ → ℕ
+given row seen i = cond seen (getD row i 0) 0
+
+-- the timers below k hung as in the row, the others stopped
+abbrev pub filled : ℕ → List ℕ → ℕ → Hung
+filled p row k = record { position = p; lefts = table 32 (λ i. given row (ltb i k) i) }
+
+-- at first every timer is stopped
+pub fill-none : (count : ℕ) (row : List ℕ) → filled (count % 64) row 0 ≡ empty count
+unfolding table empty
+fill-none count row = refl
+
+-- starting the timer k for its ticks left in the row fills one timer more, also where the row has 0
+pub fill-next : (p : ℕ) (row : List ℕ) (k : ℕ) → k < 32 → started (filled p row k) k (getD row k 0) ≡ filled p row (suc k)
+unfolding started withLeft
+fill-next p row k l =
+    rw (lt-ltb k 32 l, at-k (given row) k 0 l)
+    (by-cases (eqb (getD row k 0) 0)
+    (λ e. rw (le-ltb 0 (getD row k 0) (omega (arith, eqb-true (getD row k 0) 0 e)), unchanged (given row) k (sym (eqb-true (getD row k 0) 0 e))))
+    (λ e. rw (lt-ltb 0 (getD row k 0) (omega (arith, eqb-false (getD row k 0) 0 e)), changed (given row) k l (getD row k 0) refl)))
+
+-- with every timer filled it is the row
+pub fill-all : (p : ℕ) (row : List ℕ) → length row ≡ 32 → filled p row 32 .lefts ≡ row
+fill-all p row e =
+    ext-getD 0 _ row (table-length 32 (λ i. given row (ltb i 32) i) ∙ sym e)
+    (λ i l. at i (omega (arith, table-length 32 (λ j. given row (ltb j 32) j)))) where
+      at : (i : ℕ) → i < 32 → left (filled p row 32) i ≡ getD row i 0
+      at i m = table-at 32 (λ j. given row (ltb j 32) j) i 0 m ∙ rw (lt-ltb i 32 m)

@@ -1,0 +1,11 @@
+pub mod Tables
+pub mod Turning
+pub mod Visits
+pub mod Walk
+pub mod Hanging
+pub mod Ticking
+pub mod Dues
+pub mod Laws
+pub mod Filling
+pub mod Theorems
+pub mod Examples

@@ -1,0 +1,125 @@
+-- A tick of the wheel: the visits of the timers on the next spoke come to one tick less for each timer.
+-- Assumes nothing.
+use Prim.Native.Nat.{ℕ, _+_, _-_, _%_, _<_}
+use mathlib.Core.Path.{_≡_, refl, sym, ap}
+use mathlib.Core.Bool.{xor}
+use native.Mathlib.Omega.{arith}
+use lib.ListN.{length, getD, set, List·getD-map}
+use lib.Dec.{eqb, ltb}
+use lib.Bits.{bitXor}
+use borrow.Author.Tests.{lt-ltb}
+use Rattle.laws.specs.Bits.{wordOf, among, members, word-same, xor-words, members-word}
+use Rattle.wheel.specs.Hung.{Hung, Good, left, ticked, due}
+use Rattle.wheel.specs.Wheels.{table, spokeOf, turnsOf, hangs, wheelOf, dueOf, onNext, tickedOf}
+use Rattle.wheel.specs.Inside.{Midst, moved, cleared, tickedIn}
+use Rattle.wheel.proofs.Tables.{table-at, table-same, table-set}
+use Rattle.wheel.proofs.Turning.{ends, kept, others, spoke-after, turns-after}
+use Rattle.wheel.proofs.Visits.{visited-below, begun, turn, atEnd, home, After}
+use Rattle.wheel.proofs.Hanging.{spoke-word, hangs-at}
+
+-- every running timer has one tick less
+pub left-ticked : (h : Hung) (i : ℕ) → left (ticked h) i ≡ left h i - 1
+unfolding ticked
+left-ticked h i = List·getD-map (λ (r : ℕ). r - 1) (h .lefts) i 0
+
+-- the turns left to a timer, and its spoke
+abbrev turnsNow : Hung → ℕ → ℕ
+turnsNow h i = turnsOf (left h i)
+
+abbrev spokeNow : Hung → ℕ → ℕ
+spokeNow h i = spokeOf (h .position) (left h i)
+
+module _ (h : Hung) (g : Good h) (u : ℕ) (next : u ≡ (h .position + 1) % 64) where
+  -- the wheel as the visits begin
+  begins : Midst (moved (wheelOf h)) 0 0 ≡ After (wheelOf h .spokes) u (hangs h u) (turnsNow h) (spokeNow h) 0
+  unfolding moved wheelOf
+  begins =
+      let e : (h .position % 64 + 1) % 64 ≡ u = omega (arith, g .place) in
+      rw e (sym (begun (wheelOf h .spokes) u (hangs h u) (turnsNow h) (spokeNow h)))
+
+  -- a timer that is seen at its end is one with one tick left
+  end-is-one : (i : ℕ) → i < 32 → atEnd (hangs h u) (turnsNow h) (ltb i 32) i ≡ eqb (left h i) 1
+  unfolding hangs
+  end-is-one i l = rw (lt-ltb i 32 l) (ends (h .position) u (g .place) next (left h i))
+
+  position-after : ticked h .position ≡ u
+  unfolding ticked
+  position-after = sym next
+
+  hangs-after : (s i : ℕ) → hangs (ticked h) s i ≡ eqb (spokeOf u (left h i - 1)) s
+  unfolding hangs
+  hangs-after s i = rw (left-ticked h i, position-after)
+
+  -- the word of those that came due
+  due-word : wordOf 32 (λ i. atEnd (hangs h u) (turnsNow h) (ltb i 32) i) ≡ dueOf h .ids
+  unfolding dueOf
+  due-word = word-same 32 _ _ end-is-one
+
+  on-next : (i : ℕ) → xor (hangs h u i) (eqb (left h i) 1) ≡ hangs (ticked h) u i
+  on-next i = rw (hangs-after u i, hangs-at h i u (spokeNow h i) refl) (kept (h .position) u (g .place) next (left h i))
+
+  on-others : (s i : ℕ) → s < 64 → (s ≡ u → ⊥) → hangs h s i ≡ hangs (ticked h) s i
+  on-others s i l n =
+      rw (hangs-after s i, hangs-at h i s (spokeNow h i) refl) (others (h .position) u (g .place) next (left h i) s l n)
+
+  spokes-after : set (wheelOf h .spokes) u (bitXor (getD (wheelOf h .spokes) u 0) (dueOf h .ids)) ≡ wheelOf (ticked h) .spokes
+  unfolding wheelOf dueOf
+  spokes-after =
+      let m : u < 64 = omega arith in
+      let e : getD (table 64 (λ s. wordOf 32 (hangs h s))) u 0 ≡ wordOf 32 (hangs h u) = table-at 64 (λ s. wordOf 32 (hangs h s)) u 0 m in
+      table-set 64 (λ s. wordOf 32 (hangs h s)) (λ s. wordOf 32 (hangs (ticked h) s)) u _ m
+      (rw (e, xor-words 32 (hangs h u) (λ i. eqb (left h i) 1)) (word-same 32 _ _ (λ i l. on-next i)))
+      (λ s l n. word-same 32 _ _ (λ i k. on-others s i l n))
+
+  turns-table : table 32 (λ i. turn (hangs h u) (turnsNow h) (ltb i 32) i) ≡ wheelOf (ticked h) .turns
+  unfolding wheelOf hangs
+  turns-table = table-same 32 _ _ (λ i l. rw (lt-ltb i 32 l, left-ticked h i) (turns-after (h .position) u (g .place) next (left h i)))
+
+  spoke-table : table 32 (λ i. home (hangs h u) (turnsNow h) (spokeNow h) (ltb i 32) i) ≡ wheelOf (ticked h) .spoke
+  unfolding wheelOf
+  spoke-table = table-same 32 _ _ (λ i l. rw (end-is-one i l, left-ticked h i, position-after) (spoke-after (h .position) u (g .place) next (left h i)))
+
+  position-table : u ≡ wheelOf (ticked h) .position
+  unfolding wheelOf
+  position-table = sym position-after
+
+  visits-next : length (among 32 (hangs h u)) ≡ onNext h
+  unfolding onNext
+  visits-next = ap (λ (s : ℕ). length (among 32 (hangs h s))) next
+
+  -- those that came due taken off, the visits come to the tick
+  clears : cleared (After (wheelOf h .spokes) u (hangs h u) (turnsNow h) (spokeNow h) 32) ≡ tickedOf h
+  unfolding cleared After tickedOf
+  clears =
+      rw (due-word, spokes-after, turns-table, spoke-table)
+      (λ x. record {
+        wheel = record {
+          spokes = wheelOf (ticked h) .spokes;
+          turns = wheelOf (ticked h) .turns;
+          spoke = wheelOf (ticked h) .spoke;
+          position = position-table x;
+        };
+        due = dueOf h;
+        visits = visits-next x;
+      })
+
+  -- the tick moves to the next spoke
+  moves : moved (wheelOf h) .position ≡ u
+  unfolding moved wheelOf
+  moves = omega (arith, g .place)
+
+  -- whose members are the timers that hang there
+  next-members : members 32 (getD (wheelOf h .spokes) (moved (wheelOf h) .position) 0) ≡ among 32 (hangs h u)
+  next-members = rw (moves, spoke-word h u (omega arith)) (members-word 32 (hangs h u))
+
+-- a tick of the wheel is a tick
+pub tick-hangs : (h : Hung) → Good h → tickedIn (wheelOf h) ≡ tickedOf h
+unfolding tickedIn
+tick-hangs h g =
+    let u : ℕ = (h .position + 1) % 64 in
+    rw (
+      next-members h g u refl,
+      begins h g u refl,
+      visited-below (wheelOf h .spokes) u (hangs h u) (turnsNow h) (spokeNow h) 32 (omega arith),
+    )
+    (clears h g u refl)

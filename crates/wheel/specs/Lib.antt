@@ -1,0 +1,4 @@
+pub mod Hung
+pub mod Wheels
+pub mod Inside
+pub mod Acts

@@ -1,0 +1,173 @@
+// The timer wheel: at most 32 timers on 64 spokes. A spoke is a set of timers, a bit for each id, so that a wheel is determined by its
+// position and by each timer's ticks left, and timers come due in order of id.
+use units::Ticks;
+ghost use mathlib.Core.Path.{_≡_};
+ghost use Rattle.wheel.specs.Hung.{Hung, Good, empty, started, stopped, left, due};
+ghost use Rattle.wheel.specs.Wheels.{wheelOf, tickedOf, idsOf, first, rest};
+ghost use Rattle.wheel.specs.Inside.{bitOf, startedIn, stoppedIn, leftIn, tickedIn, withoutFirst};
+
+pub struct Wheel {
+    // The timers that hang on each spoke.
+    pub spokes: [u32; 64],
+    // The whole turns left to each timer, 0 for a stopped one.
+    pub turns: [u16; 32],
+    // The spoke on which each timer hangs, 255 for a stopped one.
+    pub spoke: [u8; 32],
+    // The spoke last visited: the tick count mod 64.
+    pub position: u8,
+}
+
+// The timers that came due at a tick, a bit for each id.
+pub struct Due {
+    pub ids: u32,
+}
+
+// What a tick gives: the next wheel, the timers that came due, and how many timers were visited.
+pub struct Ticked {
+    pub wheel: Wheel,
+    pub due: Due,
+    pub visits: u8,
+}
+
+// The bit of a timer in a set of timers.
+fn bit(id: u8) -> u32
+    ensures { λ r. ⌜ r ≡ bitOf id ⌝ }
+{
+    if 32 <= id {
+        return 0;
+    }
+    1u32 << id
+}
+
+impl Wheel {
+    // A wheel with every timer stopped, at this tick count.
+    pub fn empty(count: u32) -> Wheel
+        ensures { λ r. ⌜ r ≡ wheelOf (empty count) ⌝ }
+    {
+        let spokes = [0u32; 64];
+        let turns = [0u16; 32];
+        let spoke = [255u8; 32];
+        let position = (count % 64) as u8;
+        Wheel {
+            spokes,
+            turns,
+            spoke,
+            position,
+        }
+    }
+
+    // The timer set for n ticks. Nothing changes for an id out of range, a running timer, or no ticks.
+    pub fn start(mut self, id: u8, n: Ticks) -> Wheel
+        ensures always { λ r. ⌜ r ≡ startedIn self id (n .0) ⌝ }
+        ensures hung { λ r. ⌜ ((h : Hung) → Good h → self ≡ wheelOf h → r ≡ wheelOf (started h id (n .0))) ⌝ }
+    {
+        let i = id as usize;
+        if 32 <= i {
+            return self;
+        }
+        if self.spoke[i] < 64 {
+            return self;
+        }
+        let r = n.0;
+        if r == 0 {
+            return self;
+        }
+        let at = (self.position as u32 + r as u32) % 64;
+        let s = at as usize;
+        self.spokes[s] = self.spokes[s] | bit(id);
+        self.turns[i] = (r - 1) / 64;
+        self.spoke[i] = at as u8;
+        self
+    }
+
+    // The timer stopped. Nothing changes for an id out of range or a stopped timer.
+    pub fn stop(mut self, id: u8) -> Wheel
+        ensures always { λ r. ⌜ r ≡ stoppedIn self id ⌝ }
+        ensures hung { λ r. ⌜ ((h : Hung) → Good h → self ≡ wheelOf h → r ≡ wheelOf (stopped h id)) ⌝ }
+    {
+        let i = id as usize;
+        if 32 <= i {
+            return self;
+        }
+        let s = self.spoke[i] as usize;
+        if 64 <= s {
+            return self;
+        }
+        self.spokes[s] = self.spokes[s] ^ bit(id);
+        self.turns[i] = 0;
+        self.spoke[i] = 255;
+        self
+    }
+
+    // The ticks left to a timer: 0 for a stopped one, and for an id out of range.
+    pub fn left(self, id: u8) -> Ticks
+        ensures always { λ r. ⌜ r .0 ≡ leftIn self id ⌝ }
+        ensures hung { λ r. ⌜ ((h : Hung) → Good h → self ≡ wheelOf h → r .0 ≡ left h id) ⌝ }
+    {
+        let i = id as usize;
+        if 32 <= i {
+            return Ticks(0);
+        }
+        let s = self.spoke[i] as u32;
+        if 64 <= s {
+            return Ticks(0);
+        }
+        let t = self.turns[i] as u32;
+        let way = (s + 63 - self.position as u32 % 64) % 64;
+        Ticks(((t * 64 + way + 1) % 65536) as u16)
+    }
+
+    // Moves to the next spoke, and visits the timers on it: one with turns left loses a turn, one with none comes due and is stopped.
+    pub fn tick(mut self) -> Ticked
+        ensures always { λ r. ⌜ r ≡ tickedIn self ⌝ }
+        ensures hung { λ r. ⌜ ((h : Hung) → Good h → self ≡ wheelOf h → r ≡ tickedOf h) ⌝ }
+        ensures order { λ r. ⌜ ((h : Hung) → Good h → self ≡ wheelOf h → idsOf (r .due) ≡ due h) ⌝ }
+    {
+        let at = (self.position % 64 + 1) % 64;
+        let here = at as usize;
+        self.position = at;
+        let mut rest = self.spokes[here];
+        let mut due: u32 = 0;
+        let mut visits: u8 = 0;
+        while 0 < rest {
+            let id = u32::trailing_zeros(rest) as u8;
+            let i = id as usize;
+            if self.turns[i] == 0 {
+                self.spoke[i] = 255;
+                due = due | bit(id);
+            } else {
+                self.turns[i] -= 1;
+            }
+            rest = rest & (rest - 1);
+            visits += 1;
+        }
+        self.spokes[here] = self.spokes[here] ^ due;
+        let due = Due { ids: due };
+        Ticked {
+            wheel: self,
+            due,
+            visits,
+        }
+    }
+}
+
+impl Due {
+    // The lowest id, or 32 for none.
+    pub fn first(self) -> u8
+        ensures { λ r. ⌜ r ≡ first (idsOf self) ⌝ }
+    {
+        u32::trailing_zeros(self.ids) as u8
+    }
+
+    // The others, without the lowest.
+    pub fn rest(self) -> Due
+        ensures always { λ r. ⌜ r ≡ withoutFirst self ⌝ }
+        ensures ids { λ r. ⌜ idsOf r ≡ rest (idsOf self) ⌝ }
+    {
+        let w = self.ids;
+        if w == 0 {
+            return self;
+        }
+        Due { ids: w & (w - 1) }
+    }
+}
