@@ -4,5 +4,6 @@ pub mod Next
 pub mod Effects
 pub mod Refusals
 pub mod Sound
+pub mod Page
 pub mod Step
 pub mod Examples

@@ -10,3 +10,4 @@ pub mod Timers
 pub mod Keeping
 pub mod Holding
 pub mod Tested
+pub mod Kept

@@ -331,3 +331,72 @@ runner-sound k live rests = by-cases (k .started) started stopped
         go : (t : ℕ) → t < length (k .threads) → at k running t ≡ (k .started && eqb t (k .runner))
         go t l = refuted (at k running t) (λ a. true≢false (sym (unfold same in (sym (ap (λ w. same w ready) (same-true (thread k t .stands) running (unfold at in a))) ∙ (unfold at in (rests off .1 t l))))))
             ∙ sym (refuted (k .started && eqb t (k .runner)) (λ z. no-way (k .started) (and-left (k .started) (eqb t (k .runner)) z) off))
+
+none-above : (k : Rows) → (k .started ≡ true → Runs k) → noneAbove k ≡ true
+none-above k live = at-each (length (k .threads)) (λ t. implies (k .started && at k ready t) (leb (priority k t) (priority k (k .runner)))) (λ t l.
+    implying (k .started && at k ready t) (leb (priority k t) (priority k (k .runner))) (λ a.
+    le-leb (priority k t) (priority k (k .runner)) (live (and-left (k .started) (at k ready t) a) .top t (and-right (k .started) (at k ready t) a))))
+
+rest-test : (k : Rows) (count : ℕ) (ts : List Timer) → Rests k count ts → all (rest k count ts) ≡ true
+rest-test k count ts r = true-all (rest k count ts) (
+  at-each (length (k .threads)) (at k ready) (r .ready),
+  (at-each (length (k .mutexes)) (λ m. eqb (mutex k m .owner) 255) (λ m l. eq-eqb (mutex k m .owner) 255 (r .unowned m)), (r .timers, (eq-eqb count 0 (r .count), tt))),
+)
+
+queues-test : (k : Rows) (s : Sets) → Queued k s → all (queueClauses k s) ≡ true
+queues-test k s q = true-all (queueClauses k s) (
+  holding ready tt,
+  (
+    eq-eqb (length (s .mutex)) (length (k .mutexes)) (q .mutexes),
+    (
+      at-each (length (k .mutexes)) (λ m. holds k (forMutex m) (setAt s (forMutex m))) (λ m l. holding (forMutex m) l),
+      (
+        eq-eqb (length (s .condition)) (length (k .ties)) (q .conditions),
+        (at-each (length (k .ties)) (λ d. holds k (onCondition d) (setAt s (onCondition d))) (λ d l. holding (onCondition d) l), tt),
+      ),
+    ),
+  ),
+)
+  where
+    holding : (w : Where) → Real k w → holds k w (setAt s w) ≡ true
+    holding w r = fits-holds k w (not-running (length (k .mutexes)) (length (k .ties)) w r) (setAt s w) (q .fits w r)
+
+-- the test passes where the facts hold
+pub facts-sound : (s : State) → Sound s → sound s ≡ true
+unfolding sound
+facts-sound s o = and-both (all (clauses k (s .count) (s .timers))) (all (queueClauses k (s .scheduler .sets)))
+    (true-all (clauses k (s .count) (s .timers)) (
+      true-all (limits k (s .count) (s .timers)) (
+        to-inside 1 32 (length (k .threads)) (f .some) (f .few),
+        (le-leb (length (k .mutexes)) 16 (f .few-mutexes), (le-leb (length (k .ties)) 16 (f .few-ties), (le-leb (length (s .timers)) 32 (o .few-timers), (lt-ltb (s .count) 4294967296 (o .count), tt)))),
+      ),
+      (
+        bases-test f,
+        (
+          ceilings-test f,
+          (
+            idle-test f,
+            (
+              runner-sound k (o .live) (λ off. (o .rests off .runner, o .rests off .ready)),
+              (
+                none-above k (o .live),
+                (
+                  objects-test f,
+                  (
+                    mutexes-test f,
+                    (conditions-test f (o .ties), (o .timers, (implying (not (k .started)) (all (rest k (s .count) (s .timers))) (λ off. rest-test k (s .count) (s .timers) (o .rests (not-true (k .started) off))), tt))),
+                  ),
+                ),
+              ),
+            ),
+          ),
+        ),
+      ),
+    ))
+    (queues-test k (s .scheduler .sets) (o .queued))
+  where
+    k : Rows
+    k = s .scheduler .rows
+
+    f : Facts (s .scheduler .rows)
+    f = o .facts
