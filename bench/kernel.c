@@ -11,13 +11,29 @@ enum {
 /* The highest member of a set that is not empty. */
 static uint8_t highest(uint32_t set)
 {
+#ifdef __GNUC__ /* one instruction, where C11 itself has only a loop */
     return (uint8_t)(31 - __builtin_clz(set));
+#else
+    uint8_t member = 0;
+
+    while ((set >>= 1) != 0)
+        member++;
+    return member;
+#endif
 }
 
 /* The lowest member of a set that is not empty. */
 static uint8_t lowest(uint32_t set)
 {
+#ifdef __GNUC__
     return (uint8_t)__builtin_ctz(set);
+#else
+    uint8_t member = 0;
+
+    for (; (set & 1) == 0; set >>= 1)
+        member++;
+    return member;
+#endif
 }
 
 /* ---- queues */
@@ -385,22 +401,22 @@ static uint8_t call_broadcast(struct kernel *k, uint8_t condition, uint8_t *give
 }
 
 /* Call 11. */
-static uint8_t call_start_timer(struct kernel *k, const struct call *call)
+static uint8_t call_start_timer(struct kernel *k, struct call call)
 {
-    uint32_t length = call->v / MICROSECONDS_A_TICK;
+    uint32_t length = call.v / MICROSECONDS_A_TICK;
     struct timer *t;
 
-    if (call->a >= k->timers || call->b >= k->conditions)
+    if (call.a >= k->timers || call.b >= k->conditions)
         return NO_SUCH_ID;
     if (length < 1 || length > LARGEST_LENGTH)
         return OUT_OF_RANGE;
-    t = &k->timer[call->a];
+    t = &k->timer[call.a];
     if (t->state != NOT_RUNNING)
         return TIMER_RUNS;
-    t->state = call->kind == 0 ? ONE_SHOT : PERIODIC;
-    t->condition = call->b;
+    t->state = call.kind == 0 ? ONE_SHOT : PERIODIC;
+    t->condition = call.b;
     t->length = (uint16_t)length;
-    hang(k, call->a, length);
+    hang(k, call.a, length);
     return DONE;
 }
 
@@ -432,49 +448,48 @@ static uint8_t call_tick(struct kernel *k, uint8_t *given)
 /* ---- the step */
 
 /* Does the call's own work, the stopped kernel's refusal aside; its answer number. */
-static uint8_t perform(struct kernel *k, const struct call *call, uint8_t *given)
+static uint8_t perform(struct kernel *k, struct call call, uint8_t *given)
 {
-    switch (call->code) {
+    switch (call.code) {
     case START:
         return call_start(k);
     case CREATE_THREAD:
-        return call_create_thread(k, call->a, given);
+        return call_create_thread(k, call.a, given);
     case CREATE_MUTEX:
-        return call_create_mutex(k, call->a, given);
+        return call_create_mutex(k, call.a, given);
     case CREATE_CONDITION:
         return call_create_condition(k, given);
     case CREATE_TIMER:
         return call_create_timer(k, given);
     case ACQUIRE:
-        return call_acquire(k, call->a);
+        return call_acquire(k, call.a);
     case RELEASE:
-        return call_release(k, call->a);
+        return call_release(k, call.a);
     case WAIT:
-        return call_wait(k, call->a, call->b);
+        return call_wait(k, call.a, call.b);
     case SIGNAL:
-        return call_signal(k, call->a, given);
+        return call_signal(k, call.a, given);
     case BROADCAST:
-        return call_broadcast(k, call->a, given);
+        return call_broadcast(k, call.a, given);
     case START_TIMER:
         return call_start_timer(k, call);
     case STOP_TIMER:
-        return call_stop_timer(k, call->a);
+        return call_stop_timer(k, call.a);
     default:
         return call_tick(k, given);
     }
 }
 
 /* Does a call that decode has passed. */
-struct answer step(struct kernel *k, const struct call *call)
+void step(struct kernel *k, struct call call, struct answer *answer)
 {
-    struct answer answer = { .number = STOPPED, .given = NONE };
+    uint8_t given = NONE, number = STOPPED;
 
-    if (k->started || call->code < ACQUIRE)
-        answer.number = perform(k, call, &answer.given);
-    if (answer.number == DONE && k->started)
-        choose(k, call->code == TICK);
-    answer.running = k->running;
-    return answer;
+    if (k->started || call.code < ACQUIRE)
+        number = perform(k, call, &given);
+    if (number == DONE && k->started)
+        choose(k, call.code == TICK);
+    *answer = (struct answer){ number, given, k->running };
 }
 
 /* Takes a row apart into its call; false for a wrong form. */
@@ -498,13 +513,14 @@ bool decode(const uint8_t row[ROW], struct call *call)
 }
 
 /* Does the call of a row, or answers 17. */
-struct answer step_row(struct kernel *k, const uint8_t row[ROW])
+void step_row(struct kernel *k, const uint8_t row[ROW], struct answer *answer)
 {
     struct call call;
 
-    if (!decode(row, &call))
-        return (struct answer){ .number = WRONG_FORM, .given = NONE, .running = k->running };
-    return step(k, &call);
+    if (decode(row, &call))
+        step(k, call, answer);
+    else
+        *answer = (struct answer){ .number = WRONG_FORM, .given = NONE, .running = k->running };
 }
 
 /* Makes the kernel that document 01 begins with. */

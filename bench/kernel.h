@@ -85,10 +85,10 @@ void boot(struct kernel *k);
 /* Takes a row apart into its call; false for a wrong form. */
 bool decode(const uint8_t row[ROW], struct call *call);
 
-/* Does a call that decode has passed. */
-struct answer step(struct kernel *k, const struct call *call);
+/* Does a call that decode has passed. The call goes in a register and the answer's bytes straight to the caller. */
+void step(struct kernel *k, struct call call, struct answer *answer);
 
 /* Does the call of a row, or answers 17. */
-struct answer step_row(struct kernel *k, const uint8_t row[ROW]);
+void step_row(struct kernel *k, const uint8_t row[ROW], struct answer *answer);
 
 #endif

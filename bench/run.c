@@ -16,7 +16,7 @@ static void answer_all(FILE *calls)
     while ((length = fread(row, 1, ROW, calls)) != 0) {
         struct answer answer = { .number = WRONG_FORM, .given = NONE, .running = kernel.running };
         if (length == ROW)
-            answer = step_row(&kernel, row);
+            step_row(&kernel, row, &answer);
         printf("%lu %d %d %d\n", ++line, answer.number, answer.given, answer.running);
     }
 }

@@ -1,0 +1,127 @@
+"""Checks the mixes of bench/mixes with the reference program.
+
+    mixes.py               checks each mix
+    mixes.py --write DIR   writes DIR/NAME.setup.bin and DIR/NAME.loop.bin
+
+A mix is NAME.setup, run once, and NAME.loop, run any number of times after
+it: one row of 8 bytes in hexadecimal on a line, `#` before a comment. Each
+row must be accepted, and after each loop the saved record must be as it was
+before, the tick count aside. The last line of a check is `N passed, M
+failed`; the exit status is 0 only if something was checked and M is 0.
+"""
+
+from __future__ import annotations
+
+import subprocess
+import sys
+import tempfile
+from pathlib import Path
+from typing import List, Sequence
+
+BENCH = Path(__file__).resolve().parent
+FOLDER = BENCH / "mixes"
+REFERENCE = BENCH.parent / "reference"
+USAGE = "usage: mixes.py [--write DIR]"
+ROW = 8
+ROUNDS = 50
+TICK_COUNT = slice(20, 24)
+
+
+def read_rows(path: Path) -> bytes:
+    """The rows of a text file, as bytes."""
+    rows = b""
+    for number, line in enumerate(path.read_text().splitlines(), 1):
+        row = bytes.fromhex(line.partition("#")[0])
+        if len(row) not in (0, ROW):
+            raise ValueError(f"{path}:{number}: not a row of {ROW} bytes")
+        rows += row
+    if not rows:
+        raise ValueError(f"{path}: no row")
+    return rows
+
+
+def names() -> List[str]:
+    """The names of the mixes, in order; a half alone is found when read."""
+    return sorted({path.stem for path in FOLDER.iterdir()})
+
+
+def run_rounds(name: str, room: Path) -> None:
+    """Run the setup and 0, 1, .. rounds of the loop on the reference."""
+    setup = read_rows(FOLDER / f"{name}.setup")
+    loop = read_rows(FOLDER / f"{name}.loop")
+    lines: List[str] = []
+    for rounds in range(ROUNDS + 1):
+        calls = room / f"{rounds}.calls"
+        calls.write_bytes(setup + loop * rounds)
+        end, out = calls.with_suffix(".end"), calls.with_suffix(".out")
+        lines.append(f"{calls} boot {end} {out}\n")
+    listed = room / "list"
+    listed.write_text("".join(lines))
+    script = str(REFERENCE / "run.py")
+    subprocess.run([sys.executable, script, "--many", str(listed)], check=True)
+
+
+def refused_line(room: Path) -> str:
+    """The first line of the longest run that is not an answer 0, or nothing."""
+    text = (room / f"{ROUNDS}.out").read_text()
+    for line in text.splitlines()[1:]:
+        if line.split()[1] != "0":
+            return line
+    return ""
+
+
+def shape(room: Path, rounds: int) -> bytes:
+    """The record after so many rounds, without its tick count."""
+    record = bytearray((room / f"{rounds}.end").read_bytes())
+    del record[TICK_COUNT]
+    return bytes(record)
+
+
+def trouble_of(name: str) -> str:
+    """What is wrong with a mix, or nothing."""
+    with tempfile.TemporaryDirectory() as folder:
+        room = Path(folder)
+        try:
+            run_rounds(name, room)
+        except (OSError, ValueError) as error:
+            return str(error)
+        refused = refused_line(room)
+        if refused:
+            return f"a row is refused: {refused}"
+        for rounds in range(1, ROUNDS + 1):
+            if shape(room, rounds) != shape(room, 0):
+                return f"round {rounds} leaves another state"
+    return ""
+
+
+def check() -> int:
+    """Check every mix and print the count; the exit status."""
+    troubles = {name: trouble_of(name) for name in names()}
+    for name, trouble in troubles.items():
+        print(f"{name}: {trouble or f'{ROUNDS} rounds accepted, the state returns'}")
+    failed = sum(1 for trouble in troubles.values() if trouble)
+    passed = len(troubles) - failed
+    print(f"{passed} passed, {failed} failed")
+    return 0 if passed > 0 and failed == 0 else 1
+
+
+def write(folder: Path) -> int:
+    """Write the rows of every mix as bytes; the exit status."""
+    folder.mkdir(parents=True, exist_ok=True)
+    for path in sorted(FOLDER.iterdir()):
+        (folder / f"{path.name}.bin").write_bytes(read_rows(path))
+    return 0
+
+
+def main(words: Sequence[str]) -> int:
+    """Read the command line; the exit status."""
+    if not words:
+        return check()
+    if len(words) == 2 and words[0] == "--write":
+        return write(Path(words[1]))
+    print(USAGE, file=sys.stderr)
+    return 2
+
+
+if __name__ == "__main__":
+    sys.exit(main(sys.argv[1:]))
