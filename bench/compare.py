@@ -73,16 +73,25 @@ def agrees(program: Path, calls: Path) -> bool:
     return False
 
 
+def count_passed(room: Path, count: int, seed: int) -> int:
+    """Build, generate and run; the number of files that agree."""
+    program = build(room)
+    files = make_calls(room, seed, count)
+    run_reference(files, room)
+    rows = sum((path.stat().st_size + 7) // 8 for path in files)
+    print(f"seed {seed}: {len(files)} files from boot, {rows} rows")
+    return sum(agrees(program, path) for path in files)
+
+
 def compare(count: int, seed: int) -> int:
     """Do the comparison and print the count; the exit status."""
-    with tempfile.TemporaryDirectory() as name:
-        room = Path(name)
-        program = build(room)
-        files = make_calls(room, seed, count)
-        run_reference(files, room)
-        rows = sum((path.stat().st_size + 7) // 8 for path in files)
-        print(f"seed {seed}: {len(files)} files from boot, {rows} rows")
-        passed = sum(agrees(program, path) for path in files)
+    with tempfile.TemporaryDirectory() as room:
+        try:
+            passed = count_passed(Path(room), count, seed)
+        except (OSError, subprocess.CalledProcessError) as error:
+            # The count must still be the last line.
+            print(error)
+            passed = 0
     # A file that was asked for and not made has failed as well.
     failed = count - passed
     print(f"{passed} passed, {failed} failed")

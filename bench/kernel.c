@@ -131,7 +131,7 @@ static void choose(struct kernel *k, bool at_tick)
 
 /* ---- owning a mutex */
 
-/* Makes a thread the owner, which can only raise its priority; it must stand in no queue. */
+/* Makes a thread in no queue the owner; none above the ceiling gets here, so the ceiling is its priority. */
 static void own(struct kernel *k, uint8_t id, uint8_t mutex)
 {
     struct mutex *m = &k->mutex[mutex];
@@ -140,8 +140,7 @@ static void own(struct kernel *k, uint8_t id, uint8_t mutex)
     m->owner = id;
     m->count = 1;
     t->owned |= (uint16_t)(1u << mutex);
-    if (m->ceiling > t->priority)
-        t->priority = m->ceiling;
+    t->priority = m->ceiling;
 }
 
 /* Ends a thread's owning; its priority is found anew, since releases come in any order. */

@@ -27,14 +27,22 @@ ROUNDS = 50
 TICK_COUNT = slice(20, 24)
 
 
+def read_row(line: str) -> bytes:
+    """The row of a line, or nothing where it has only a comment."""
+    row = bytes.fromhex(line.partition("#")[0])
+    if len(row) not in (0, ROW):
+        raise ValueError(f"not a row of {ROW} bytes")
+    return row
+
+
 def read_rows(path: Path) -> bytes:
     """The rows of a text file, as bytes."""
     rows = b""
     for number, line in enumerate(path.read_text().splitlines(), 1):
-        row = bytes.fromhex(line.partition("#")[0])
-        if len(row) not in (0, ROW):
-            raise ValueError(f"{path}:{number}: not a row of {ROW} bytes")
-        rows += row
+        try:
+            rows += read_row(line)
+        except ValueError as error:
+            raise ValueError(f"{path}:{number}: {error}") from error
     if not rows:
         raise ValueError(f"{path}: no row")
     return rows
@@ -83,7 +91,7 @@ def trouble_of(name: str) -> str:
         room = Path(folder)
         try:
             run_rounds(name, room)
-        except (OSError, ValueError) as error:
+        except (OSError, ValueError, subprocess.CalledProcessError) as error:
             return str(error)
         refused = refused_line(room)
         if refused:
