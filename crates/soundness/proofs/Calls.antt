@@ -122,14 +122,15 @@ module _ {k : Rows} (f : Facts k) (m t : ℕ) (real : m < length (k .mutexes)) (
       (λ z. absurd (omega (arith, z, exists, f .few)))
       (λ z. unfold stand in record { exists = rw (length-stand k t ready) exists; some = omega arith; most = omega arith; base = rw (base-stand k t ready t exists) fits }))
 
-  pub queued-taken : {s : Sets} → Queued (stand k t running) s → Queued (stand (own k m t 1) t ready) (putSet s ready (toBack (setAt s ready) (priority (own k m t 1) t) t))
-  queued-taken {s} q = queued-lands (own k m t 1) t ready aside (unfold own in exists) tt low-priority
-    where
-      aside : Queued (stand (own k m t 1) t running) s
-      aside = unfold own stand in (queued-own q m t 1 (unfold stand in (nowhere k t (mutex k m .owner) exists old)) (stands-there k t running exists))
+  -- owning moves no queue while t is in none
+  pub aside-taken : {s : Sets} → Queued (stand k t running) s → Queued (stand (own k m t 1) t running) s
+  aside-taken q = unfold own stand in (queued-own q m t 1 (unfold stand in (nowhere k t (mutex k m .owner) exists old)) (stands-there k t running exists))
 
-      low-priority : priority (own k m t 1) t < 16
-      low-priority = subst (λ p. p < 16) (priority-stand (own k m t 1) t ready t (unfold own in exists)) (low facts-taken t)
+  pub low-taken : priority (own k m t 1) t < 16
+  low-taken = subst (λ p. p < 16) (priority-stand (own k m t 1) t ready t (unfold own in exists)) (low facts-taken t)
+
+  pub queued-taken : {s : Sets} → Queued (stand k t running) s → Queued (stand (own k m t 1) t ready) (putSet s ready (toBack (setAt s ready) (priority (own k m t 1) t) t))
+  queued-taken q = queued-lands (own k m t 1) t ready (aside-taken q) (unfold own in exists) tt low-taken
 
 -- ---- 6 and 7
 

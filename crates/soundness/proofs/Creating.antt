@@ -65,7 +65,7 @@ module _ (k : Rows) (b : ℕ) where
       go false q i = y (eqb-false u new q) i
 
   module _ (f : Facts k) (room : new < 32) (some : 1 ≤ b) (most : b ≤ 15) where
-    facts-thread : Facts withThread
+    pub facts-thread : Facts withThread
     facts-thread = record {
       some = rw (length-more (k .threads) (record { base = b; stands = ready })) (omega arith);
       few = rw (length-more (k .threads) (record { base = b; stands = ready })) (omega arith);
@@ -107,11 +107,11 @@ module _ (k : Rows) (b : ℕ) where
         waiting : (c u : ℕ) → (u ≡ new → ⊥) → Waiter k c u → Waiter withThread c u
         waiting c u n x = record { exists = x .exists; free = x .free; base = rw (old-thread u n) (x .base) }
 
-    new-exists : new < length (withThread .threads)
+    pub new-exists : new < length (withThread .threads)
     new-exists = rw (length-more (k .threads) (record { base = b; stands = ready })) (omega arith)
 
-    aside : {s : Sets} → Queued k s → Queued (stand withThread new running) s
-    aside {s} q = record { mutexes = unfold stand in (q .mutexes); conditions = unfold stand in (q .conditions); fits = λ w r. unfold stand in (go w (unfold stand in r)) }
+    pub aside-thread : {s : Sets} → Queued k s → Queued (stand withThread new running) s
+    aside-thread {s} q = record { mutexes = unfold stand in (q .mutexes); conditions = unfold stand in (q .conditions); fits = λ w r. unfold stand in (go w (unfold stand in r)) }
       where
         there : (w : Where) → Real k w → (u : ℕ) → at (stand withThread new running) w u ≡ at k w u
         there w r u = at-stand withThread new running w u new-exists ∙ by-cases (eqb u new)
@@ -149,7 +149,7 @@ unfolding threadCreated arrive
 kept-thread {h} o b room some most = record {
   facts = facts-stand now new-id ready exists (λ z. absurd (false≢true z)) tt;
   ties = ties-stand (withThread (h .rows) b) ends new-id ready exists (λ c. at-new c);
-  queued = queued-lands (withThread (h .rows) b) new-id ready (aside (h .rows) b (o .facts) room some most (o .queued)) exists tt (low now new-id);
+  queued = queued-lands (withThread (h .rows) b) new-id ready (aside-thread (h .rows) b (o .facts) room some most (o .queued)) exists tt (low now new-id);
 }
   where
     new-id : ℕ
