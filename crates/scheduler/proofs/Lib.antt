@@ -1,0 +1,2 @@
+pub mod Broadcasting
+pub mod Searching
