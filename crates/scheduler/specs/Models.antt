@@ -167,3 +167,11 @@ runFirstModel x = withRan x (parts.runFirstModel (x .threads) (x .running))
 -- the next thread is chosen
 unfoldable pub chooseNextModel : Scheduler → Bool → Scheduler
 chooseNextModel x tick = withRan x (parts.chooseNextModel (x .threads) (x .running) tick)
+
+-- mutex m is new
+unfoldable pub createMutexModel : Scheduler → ℕ → ℕ → Scheduler
+createMutexModel x m ceiling = withMutex x m (record { ceiling = ceiling; owner = 255; count = 0 })
+
+-- the row of thread t
+unfoldable pub rowModel : Scheduler → ℕ → Thread
+rowModel x t = rowOf (x .threads) t

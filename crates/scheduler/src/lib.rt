@@ -6,7 +6,7 @@ use parts::highest_first;
 use queue::Queues;
 ghost use mathlib.Core.Path.{_≡_};
 ghost use Prim.Native.Nat.{max};
-ghost use Rattle.scheduler.specs.Models.{ceilingFor, highestIn, settleModel, ownModel, recountModel, waitForModel, waitOnModel, createModel, passModel, acquireModel, releaseModel, waitModel, wakeModel, signalModel, broadcastModel, runFirstModel, chooseNextModel};
+ghost use Rattle.scheduler.specs.Models.{ceilingFor, highestIn, settleModel, ownModel, recountModel, waitForModel, waitOnModel, createModel, passModel, acquireModel, releaseModel, waitModel, wakeModel, signalModel, broadcastModel, runFirstModel, chooseNextModel, createMutexModel, rowModel};
 
 // A mutex's row: its ceiling, its owner, 255 for none, and its count.
 pub struct Mutex {
@@ -267,6 +267,28 @@ impl Scheduler {
         }
         let scheduler = self.wake(m, first.thread);
         Signalled { scheduler, left: 1 }
+    }
+
+    // Mutex m is new, of a ceiling, unowned.
+    pub fn create_mutex(mut self, m: u8, ceiling: u8) -> Scheduler
+        ensures { λ r. ⌜ r ≡ createMutexModel self m ceiling ⌝ }
+    {
+        let i = (m % 16) as usize;
+        self.mutexes[i] = Mutex {
+            ceiling,
+            owner: 255,
+            count: 0,
+        };
+        self
+    }
+
+    // The row of thread t.
+    pub fn row(self, t: u8) -> Thread
+        ensures { λ r. ⌜ r ≡ rowModel self t ⌝ }
+    {
+        let threads = self.threads;
+        let i = (t % 32) as usize;
+        threads.rows[i]
     }
 
     // The first of the highest ready queue runs.
