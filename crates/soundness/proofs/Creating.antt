@@ -41,18 +41,18 @@ module _ (k : Rows) (b : ℕ) where
   abbrev new : ℕ
   new = length (k .threads)
 
-  thread-more : (u : ℕ) → thread withThread u ≡ cond (eqb u new) (record { base = b; stands = ready }) (thread k u)
+  pub thread-more : (u : ℕ) → thread withThread u ≡ cond (eqb u new) (record { base = b; stands = ready }) (thread k u)
   thread-more u = getD-more (k .threads) (record { base = b; stands = ready }) noThread u
 
   pub old-thread : (u : ℕ) → (u ≡ new → ⊥) → thread withThread u ≡ thread k u
   old-thread u n = thread-more u ∙ rw (ne-eqb u new n)
 
-  old-priority : (u : ℕ) → (u ≡ new → ⊥) → priority withThread u ≡ priority k u
+  pub old-priority : (u : ℕ) → (u ≡ new → ⊥) → priority withThread u ≡ priority k u
   unfolding priority
   old-priority u n = ap (λ (x : Thread). max (x .base) (highestCeiling (k .mutexes) u)) (old-thread u n)
 
   -- the new one was nowhere
-  new-nowhere : (w : Where) → same running w ≡ false → at k w new ≡ false
+  pub new-nowhere : (w : Where) → same running w ≡ false → at k w new ≡ false
   new-nowhere w n = refuted (at k w new) (λ e. lt-irrefl new (standing-exists k w new n e))
 
   -- by who stands there: the new one, which is ready, or another as before
@@ -181,10 +181,10 @@ module _ (k : Rows) (c : ℕ) where
   abbrev last : ℕ
   last = length (k .mutexes)
 
-  mutex-more : (m : ℕ) → mutex withMutex m ≡ cond (eqb m last) (record { ceiling = c; owner = 255; count = 0 }) (mutex k m)
+  pub mutex-more : (m : ℕ) → mutex withMutex m ≡ cond (eqb m last) (record { ceiling = c; owner = 255; count = 0 }) (mutex k m)
   mutex-more m = getD-more (k .mutexes) (record { ceiling = c; owner = 255; count = 0 }) noMutex m
 
-  old-mutex : (m : ℕ) → (m ≡ last → ⊥) → mutex withMutex m ≡ mutex k m
+  pub old-mutex : (m : ℕ) → (m ≡ last → ⊥) → mutex withMutex m ≡ mutex k m
   old-mutex m n = mutex-more m ∙ rw (ne-eqb m last n)
 
   pub same-owner : (m : ℕ) → mutex withMutex m .owner ≡ mutex k m .owner
@@ -197,7 +197,7 @@ module _ (k : Rows) (c : ℕ) where
   highest-more [] u n = rw (ne-eqb 255 u (λ e. n (sym e)))
   highest-more (x ∷ ms) u n = ap (max (cond (eqb (x .owner) u) (x .ceiling) 0)) (highest-more ms u n)
 
-  same-priority : (u : ℕ) → (u ≡ 255 → ⊥) → priority withMutex u ≡ priority k u
+  pub same-priority : (u : ℕ) → (u ≡ 255 → ⊥) → priority withMutex u ≡ priority k u
   unfolding priority
   same-priority u n = ap (max (thread k u .base)) (highest-more (k .mutexes) u n)
 
@@ -292,7 +292,7 @@ module _ (k : Rows) where
   abbrev pub withCondition : Rows
   withCondition = withTies k (k .ties ++ (255 ∷ []))
 
-  same-tied : (c : ℕ) → tied withCondition c ≡ tied k c
+  pub same-tied : (c : ℕ) → tied withCondition c ≡ tied k c
   same-tied c = getD-more (k .ties) 255 255 c ∙ by-cases (eqb c (length (k .ties)))
       (λ e. rw (e, eqb-true c (length (k .ties)) e) (sym (List·getD-eq-default (k .ties) 255 {n = length (k .ties)} (omega arith))))
       (λ e. rw e)
