@@ -1,0 +1,10 @@
+pub mod Sides
+pub mod Fresh
+pub mod Joining
+pub mod Rows
+pub mod Threads
+pub mod Owning
+pub mod Sets
+pub mod Calls
+pub mod Signals
+pub mod Creating
