@@ -84,13 +84,13 @@ module _ {s : State} (o : Sound s) where
   going e = let r = o .live e in record { there = r .there; runs = r .runs; only = r .only }
 
 -- what an effect leaves to the choice of the next thread
-record Effect (e : State) : Type 0 where
-  kept : Kept (e .scheduler)
-  turned : Turned (e .scheduler .rows)
-  started : e .scheduler .rows .started ≡ true
-  few-timers : length (e .timers) ≤ 32
-  timers : timersSound (e .scheduler .rows) (e .timers) ≡ true
-  count : e .count < 4294967296
+pub record Effect (e : State) : Type 0 where
+  pub kept : Kept (e .scheduler)
+  pub turned : Turned (e .scheduler .rows)
+  pub started : e .scheduler .rows .started ≡ true
+  pub few-timers : length (e .timers) ≤ 32
+  pub timers : timersSound (e .scheduler .rows) (e .timers) ≡ true
+  pub count : e .count < 4294967296
 
 -- then the next thread is chosen
 finished : (atTick : Bool) (e : State) → Effect e → Sound (cond (e .scheduler .rows .started) (withScheduler e (chooseNext atTick (e .scheduler))) e)
@@ -242,9 +242,9 @@ module _ {s : State} (o : Sound s) where
   caller = s .scheduler .rows .runner
 
   -- the first of the highest ready queue runs, and the scheduler is started
-  begun : k .started ≡ false → Sound (after s Start)
-  unfolding after effect
-  begun off = finished false (withScheduler s (withRows g (withStarted (g .rows)))) (record {
+  begins : k .started ≡ false → Effect (effect s Start)
+  unfolding effect
+  begins off = record {
     kept = record {
       facts = facts-handed (g .rows) true (g .rows .runner) (c .kept .facts);
       ties = unfold at in (c .kept .ties);
@@ -255,7 +255,7 @@ module _ {s : State} (o : Sound s) where
     few-timers = o .few-timers;
     timers = timers-more k (withStarted (g .rows)) (s .timers) (omega (arith, c .ties)) (o .timers);
     count = o .count;
-  })
+  }
     where
       g : Scheduler
       g = runFirst (s .scheduler)
@@ -265,6 +265,10 @@ module _ {s : State} (o : Sound s) where
 
       c : Chosen (s .scheduler) (runFirst (s .scheduler))
       c = first-runs (kept o) none
+
+  begun : k .started ≡ false → Sound (after s Start)
+  unfolding after
+  begun off = finished false (effect s Start) (begins off)
 
   module _ (going-on : not (k .started) ≡ false) where
     on : k .started ≡ true
@@ -302,19 +306,23 @@ module _ {s : State} (o : Sound s) where
     starts-timer i d n kind there some most = timers-set k (s .timers) i (record { state = stateOf kind; condition = d; length = n; left = n }) (o .timers)
         (timer-going k (record { state = stateOf kind; condition = d; length = n; left = n }) (goes-kind kind) (record { exists = there; some = some; most = omega arith; fits = most }))
 
-    ticks : Sound (after s Tick)
-    unfolding after effect
-    ticks = finished true (record { scheduler = signalledEach (s .scheduler) (dueConditions (s .timers)); count = nextCount (s .count); timers = map ticked (s .timers) }) (record {
+    ticking : Effect (effect s Tick)
+    unfolding effect
+    ticking = record {
       kept = l .kept;
       turned = turned-going (l .caller);
       started = l .started ∙ on;
       few-timers = rw (length-map (s .timers) ticked) (o .few-timers);
       timers = timers-more k (signalledEach (s .scheduler) (dueConditions (s .timers)) .rows) (map ticked (s .timers)) (omega (arith, l .ties)) (timers-ticked k (s .timers) (o .timers));
       count = wraps (s .count);
-    })
+    }
       where
         l : Left Going (s .scheduler) (signalledEach (s .scheduler) (dueConditions (s .timers)))
         l = left-each (dueConditions (s .timers)) (kept o) (going o on) (due-below k (s .timers) (o .timers))
+
+    ticks : Sound (after s Tick)
+    unfolding after
+    ticks = finished true (effect s Tick) ticking
 
   keeps : (call : Call) → Clear (tests k (s .timers) call) → Sound (after s call)
   unfolding tests after effect
@@ -333,6 +341,46 @@ module _ {s : State} (o : Sound s) where
       (within 1 65535 (ticksIn (v .0)) (c .1 .1 .0) .0) (within 1 65535 (ticksIn (v .0)) (c .1 .1 .0) .1))
   keeps (StopTimer i) c = after-timers (c .0) (set (s .timers) i stoppedTimer) (rw (length-set (s .timers) i stoppedTimer) (o .few-timers)) (timers-set k (s .timers) i stoppedTimer (o .timers) refl)
   keeps Tick c = ticks (c .0)
+
+  -- the effect of an accepted call, where it leaves the scheduler started
+  pub effected : (call : Call) → Clear (tests k (s .timers) call) → effect s call .scheduler .rows .started ≡ true → Effect (effect s call)
+  unfolding tests effect
+  effected Start c e = begins (c .0)
+  effected (CreateThread b) c e = record {
+    kept = kept-thread (kept o) b (leb-false 32 (length (k .threads)) (c .1 .0)) (within 1 15 b (c .0) .0) (within 1 15 b (c .0) .1);
+    turned = unfold threadCreated arrive in (turned-going (going-thread k b (o .facts) (going o (unfold threadCreated arrive stand in e))));
+    started = e;
+    few-timers = o .few-timers;
+    timers = timers-more k (threadCreated (s .scheduler) b .rows) (s .timers) (unfold threadCreated arrive stand in (omega arith)) (o .timers);
+    count = o .count;
+  }
+  effected (CreateMutex b) c e = record {
+    kept = kept-mutex (kept o) b (leb-false 16 (length (k .mutexes)) (c .1 .0)) (within 1 15 b (c .0) .0) (within 1 15 b (c .0) .1);
+    turned = unfold mutexCreated in (let g = going o (unfold mutexCreated in e) in turned-going (record { there = g .there; runs = g .runs; only = g .only }));
+    started = e;
+    few-timers = o .few-timers;
+    timers = timers-more k (mutexCreated (s .scheduler) b .rows) (s .timers) (unfold mutexCreated in (omega arith)) (o .timers);
+    count = o .count;
+  }
+  effected CreateCondition c e = record {
+    kept = kept-condition (kept o) (leb-false 16 (length (k .ties)) (c .0));
+    turned = unfold conditionCreated in (let g = going o (unfold conditionCreated in e) in turned-going (record { there = g .there; runs = g .runs; only = g .only }));
+    started = e;
+    few-timers = o .few-timers;
+    timers = timers-more k (conditionCreated (s .scheduler) .rows) (s .timers) (unfold conditionCreated in (rw (length-more (k .ties) 255) (omega arith))) (o .timers);
+    count = o .count;
+  }
+  effected CreateTimer c e = timed o e (s .timers ++ (stoppedTimer ∷ [])) (rw (length-more (s .timers) stoppedTimer) (omega (arith, leb-false 32 (length (s .timers)) (c .0)))) (timers-created k (s .timers) (o .timers))
+  effected (Acquire m) c e = scheduled o (on (c .0)) (acquired (s .scheduler) m) (acquires (c .0) m c)
+  effected (Release m) c e = scheduled o (on (c .0)) (released (s .scheduler) m) (releases (c .0) m c)
+  effected (Wait d m) c e = scheduled o (on (c .0)) (waited (s .scheduler) d m) (waiting (c .0) d m c)
+  effected (Signal d) c e = scheduled o (on (c .0)) (signalled (s .scheduler) d) (left-turned (left-signalled (kept o) (going o (on (c .0))) d (leb-false (length (k .ties)) d (c .1 .0))))
+  effected (Broadcast d) c e = scheduled o (on (c .0)) (signalledTimes 32 (s .scheduler) d) (left-turned (left-times 32 (kept o) (going o (on (c .0))) d (leb-false (length (k .ties)) d (c .1 .0))))
+  effected (StartTimer i d kind v) c e = timed o (on (c .0)) (set (s .timers) i (record { state = stateOf kind; condition = d; length = ticksIn (v .0); left = ticksIn (v .0) })) (rw (length-set (s .timers) i) (o .few-timers))
+      (starts-timer (c .0) i d (ticksIn (v .0)) kind (leb-false (length (k .ties)) d (nor-right (leb (length (s .timers)) i) (leb (length (k .ties)) d) (c .1 .0)))
+      (within 1 65535 (ticksIn (v .0)) (c .1 .1 .0) .0) (within 1 65535 (ticksIn (v .0)) (c .1 .1 .0) .1))
+  effected (StopTimer i) c e = timed o (on (c .0)) (set (s .timers) i stoppedTimer) (rw (length-set (s .timers) i stoppedTimer) (o .few-timers)) (timers-set k (s .timers) i stoppedTimer (o .timers) refl)
+  effected Tick c e = ticking (c .0)
 
   -- a call of a sound state leaves a sound state, accepted or refused
   pub sound-stays : (call : Call) → Sound (stepSound s call .state)
