@@ -8,3 +8,4 @@ pub mod Sets
 pub mod Calls
 pub mod Signals
 pub mod Creating
+pub mod Sizes
