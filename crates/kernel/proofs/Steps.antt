@@ -10,7 +10,7 @@ use Rattle.queue.specs.Models.{backModel, levelModel, withLevelModel, emptyLink
 use Rattle.queue.specs.Stands.{endsOf, linksOf, queuesOf}
 use Rattle.parts.specs.Models.{arriveModel, joinModel, standModel}
 use Rattle.wheel.specs.Hung.{empty}
-use Rattle.wheel.specs.Wheels.{table, wheelOf, spokeOf, turnsOf, hangs}
+use Rattle.wheel.specs.Wheels.{wheelOf, spokeOf, turnsOf, hangs}
 use Rattle.rules.specs.Queues.{emptySet, toBack}
 use Rattle.rules.specs.Page.{stateCode, objectCode, timerCode}
 use Rattle.meaning.specs.Stands.{allSets, threadsOf, schedulerOf}
@@ -57,5 +57,5 @@ step-promise x call r e = (e, λ s o d. e ∙ ap (λ y. stepModel y call) d ∙ 
 
 -- boot is document 01's boot
 pub boot-stands : bootModel ≡ kernelOf boot
-unfolding bootModel kernelOf boot schedulerOf threadsOf allSets tabulate linksOf queuesOf endsOf flatten emptySet toBack priority highestCeiling setAt stateCode objectCode timerCode arriveModel joinModel standModel backModel levelModel withLevelModel emptyLinks emptyQueues empty wheelOf spokeOf turnsOf hangs wordOf table
+unfolding bootModel kernelOf boot schedulerOf threadsOf allSets tabulate linksOf queuesOf endsOf flatten emptySet toBack priority highestCeiling setAt stateCode objectCode timerCode arriveModel joinModel standModel backModel levelModel withLevelModel emptyLinks emptyQueues empty wheelOf spokeOf turnsOf hangs wordOf
 boot-stands = refl

@@ -14,7 +14,7 @@ use lib.Dec.{eqb, ltb, leb}
 use borrow.Author.Tests.{eqb-true, eqb-false, eq-eqb, ne-eqb, lt-leb, lt-ltb, not-false}
 use Rattle.laws.specs.Bools.{by-cases, no-way, self, and-left, and-right, and-both, cond-true, cond-false}
 use Rattle.laws.specs.Bits.{among, has, has-among, among-same}
-use Rattle.laws.specs.Lists.{by-below, tabulate, getD-tabulate, length-tabulate, set-tabulate}
+use Rattle.laws.specs.Lists.{by-below, tabulate, getD-tabulate, length-tabulate, set-tabulate, tabulate-below}
 use Rattle.calls.specs.declared.Call.the-variants.{Tick}
 use Rattle.calls.specs.declared.Verdict.the-variants.{Done, Stopped}
 use Rattle.calls.specs.Answers.{numberOf}
@@ -41,7 +41,6 @@ use Rattle.soundness.proofs.Keeping.{passed, kept, going}
 use Rattle.soundness.proofs.Timers.{Goes, going-timer, timers-ticked}
 use Rattle.meaning.specs.Stands.{schedulerOf}
 use Rattle.meaning.proofs.Rows.{small-32}
-use Rattle.meaning.proofs.Owning.{tabulate-below}
 use Rattle.meaning.proofs.Signals.{signal-stands}
 use Rattle.meaning.proofs.Sizes.{Sizes, sizes-each}
 use Rattle.kernel.specs.declared.Timer as kernel

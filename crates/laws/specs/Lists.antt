@@ -107,6 +107,12 @@ module _ {A : Type 0} where
   tabulate-same zero f g h = refl
   tabulate-same (suc n) f g h = ap₂ (λ x l. x ∷ l) (h zero) (tabulate-same n (λ i. f (suc i)) (λ i. g (suc i)) (λ i. h (suc i)))
 
+  -- the same entries below the length, the same list
+  pub tabulate-below : (n : ℕ) (f g : ℕ → A) → ((i : ℕ) → i < n → f i ≡ g i) → tabulate n f ≡ tabulate n g
+  unfolding tabulate
+  tabulate-below zero f g h = refl
+  tabulate-below (suc n) f g h = ap₂ (λ x l. x ∷ l) (h zero (omega arith)) (tabulate-below n (λ i. f (suc i)) (λ i. g (suc i)) (λ i l. h (suc i) (omega arith)))
+
   -- a store makes the list of g of that of f where g differs from f there alone
   pub set-tabulate : (n : ℕ) (f g : ℕ → A) (v : ℕ) → ((u : ℕ) → u ≢ v → f u ≡ g u) → set (tabulate n f) v (g v) ≡ tabulate n g
   unfolding tabulate
@@ -115,6 +121,15 @@ module _ {A : Type 0} where
       ap (λ l. g zero ∷ l) (tabulate-same n (λ i. f (suc i)) (λ i. g (suc i)) (λ i. h (suc i) (omega arith)))
   set-tabulate (suc n) f g (suc v) h =
       ap₂ (λ x l. x ∷ l) (h zero (omega arith)) (set-tabulate n (λ i. f (suc i)) (λ i. g (suc i)) v (λ u k. h (suc u) (omega arith)))
+
+  -- the same below the length
+  pub set-tabulate-below : (n : ℕ) (f g : ℕ → A) (v : ℕ) (a : A) → v < n → a ≡ g v → ((u : ℕ) → u < n → (u ≡ v → ⊥) → f u ≡ g u) → set (tabulate n f) v a ≡ tabulate n g
+  unfolding tabulate
+  set-tabulate-below zero f g v a h e o = absurd (not-suc-le-zero h)
+  set-tabulate-below (suc n) f g zero a h e o =
+      ap₂ (λ x l. x ∷ l) e (tabulate-below n (λ i. f (suc i)) (λ i. g (suc i)) (λ i l. o (suc i) (omega arith) (λ z. omega arith)))
+  set-tabulate-below (suc n) f g (suc v) a h e o =
+      ap₂ (λ x l. x ∷ l) (o zero (omega arith) (λ z. omega arith)) (set-tabulate-below n (λ i. f (suc i)) (λ i. g (suc i)) v a (le-of-suc-le-suc h) e (λ u l k. o (suc u) (omega arith) (λ z. k (omega arith))))
 
   -- one value at each place
   pub tabulate-one : (n : ℕ) (a : A) → tabulate n (λ i. a) ≡ replicate n a

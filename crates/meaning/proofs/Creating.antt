@@ -10,7 +10,7 @@ use lib.ListN.{length, set, List·getD-eq-default}
 use lib.Dec.{eqb}
 use borrow.Author.Tests.{eqb-true, ne-eqb}
 use Rattle.laws.specs.Bools.{by-cases, self}
-use Rattle.laws.specs.Lists.{tabulate, tabulate-same, set-tabulate}
+use Rattle.laws.specs.Lists.{tabulate, tabulate-same, set-tabulate, tabulate-below}
 use Rattle.queue.specs.declared.Links.{Links}
 use Rattle.queue.specs.Stands.{after, linkOf, linksOf, queuesOf}
 use Rattle.parts.specs.declared.Thread as parts
@@ -29,7 +29,6 @@ use Rattle.soundness.proofs.Next.{Kept}
 use Rattle.soundness.proofs.Creating.{getD-more, length-more, withThread, withMutex, withCondition, facts-thread, new-exists, aside-thread, thread-more, old-thread, old-priority, mutex-more, old-mutex, same-priority, same-tied}
 use Rattle.meaning.specs.Stands.{allSets, threadIn, threadsOf, mutexIn, schedulerOf}
 use Rattle.meaning.proofs.Rows.{small-32, small-16}
-use Rattle.meaning.proofs.Owning.{tabulate-below}
 use Rattle.meaning.proofs.Calls.{ready-stands}
 
 -- ---- a thread

@@ -11,7 +11,7 @@ use lib.ListN.{length, getD, set}
 use lib.Dec.{eqb, ltb}
 use borrow.Author.Tests.{eqb-true, eqb-false, eq-eqb, ne-eqb, lt-ltb, le-ltb, ltb-true, ltb-false}
 use Rattle.laws.specs.Bools.{by-cases, self}
-use Rattle.laws.specs.Lists.{by-equal, by-below, tabulate, getD-tabulate, set-tabulate}
+use Rattle.laws.specs.Lists.{tabulate, getD-tabulate, tabulate-below, set-tabulate}
 use Rattle.queue.specs.declared.Links.{Links}
 use Rattle.queue.specs.declared.Queues.{Queues}
 use Rattle.parts.specs.declared.Thread as parts
@@ -26,12 +26,6 @@ use Rattle.rules.specs.Page.{stateCode, objectCode}
 use Rattle.soundness.proofs.Rows.{mutex-own, length-own, priority-own}
 use Rattle.meaning.specs.Stands.{threadIn, threadsOf, mutexIn, schedulerOf}
 use Rattle.meaning.proofs.Rows.{small-32, small-16}
-
--- tables that agree below their length are one
-pub tabulate-below : {A : Type 0} (n : ℕ) (f g : ℕ → A) → ((i : ℕ) → i < n → f i ≡ g i) → tabulate n f ≡ tabulate n g
-unfolding tabulate
-tabulate-below zero f g h = refl
-tabulate-below (suc n) f g h = ap₂ (λ x l. x ∷ l) (h 0 (omega arith)) (tabulate-below n (λ i. f (suc i)) (λ i. g (suc i)) (λ i l. h (suc i) (omega arith)))
 
 -- ---- the search for the largest ceiling
 

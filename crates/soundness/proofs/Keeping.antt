@@ -274,14 +274,6 @@ module _ {s : State} (o : Sound s) where
     on : k .started ≡ true
     on = not-false (k .started) going-on
 
-    -- an effect on the scheduler, then the choice
-    after-scheduler : (g : Scheduler) → Left Turned (s .scheduler) g → Sound (cond (g .rows .started) (withScheduler s (chooseNext false g)) (withScheduler s g))
-    after-scheduler g l = finished false (withScheduler s g) (scheduled o on g l)
-
-    -- an effect on the timers, then the choice
-    after-timers : (ts : List Timer) → length ts ≤ 32 → timersSound k ts ≡ true → Sound (cond (k .started) (withScheduler (withTimers s ts) (chooseNext false (s .scheduler))) (withTimers s ts))
-    after-timers ts few good = finished false (withTimers s ts) (timed o on ts few good)
-
     acquires : (m : ℕ) → Clear (tests k (s .timers) (Acquire m)) → Left Turned (s .scheduler) (acquired (s .scheduler) m)
     unfolding tests
     acquires m c = left-acquired (kept o) (going o on) m (leb-false (length (k .mutexes)) m (c .1 .0)) (eqb-false caller 0 (c .1 .1 .0))
@@ -324,24 +316,6 @@ module _ {s : State} (o : Sound s) where
     unfolding after
     ticks = finished true (effect s Tick) ticking
 
-  keeps : (call : Call) → Clear (tests k (s .timers) call) → Sound (after s call)
-  unfolding tests after effect
-  keeps Start c = begun (c .0)
-  keeps (CreateThread b) c = created-thread o b (leb-false 32 (length (k .threads)) (c .1 .0)) (within 1 15 b (c .0) .0) (within 1 15 b (c .0) .1)
-  keeps (CreateMutex b) c = created-mutex o b (leb-false 16 (length (k .mutexes)) (c .1 .0)) (within 1 15 b (c .0) .0) (within 1 15 b (c .0) .1)
-  keeps CreateCondition c = created-condition o (leb-false 16 (length (k .ties)) (c .0))
-  keeps CreateTimer c = created-timer o (leb-false 32 (length (s .timers)) (c .0))
-  keeps (Acquire m) c = after-scheduler (c .0) (acquired (s .scheduler) m) (acquires (c .0) m c)
-  keeps (Release m) c = after-scheduler (c .0) (released (s .scheduler) m) (releases (c .0) m c)
-  keeps (Wait d m) c = after-scheduler (c .0) (waited (s .scheduler) d m) (waiting (c .0) d m c)
-  keeps (Signal d) c = after-scheduler (c .0) (signalled (s .scheduler) d) (left-turned (left-signalled (kept o) (going o (on (c .0))) d (leb-false (length (k .ties)) d (c .1 .0))))
-  keeps (Broadcast d) c = after-scheduler (c .0) (signalledTimes 32 (s .scheduler) d) (left-turned (left-times 32 (kept o) (going o (on (c .0))) d (leb-false (length (k .ties)) d (c .1 .0))))
-  keeps (StartTimer i d kind v) c = after-timers (c .0) (set (s .timers) i (record { state = stateOf kind; condition = d; length = ticksIn (v .0); left = ticksIn (v .0) })) (rw (length-set (s .timers) i) (o .few-timers))
-      (starts-timer (c .0) i d (ticksIn (v .0)) kind (leb-false (length (k .ties)) d (nor-right (leb (length (s .timers)) i) (leb (length (k .ties)) d) (c .1 .0)))
-      (within 1 65535 (ticksIn (v .0)) (c .1 .1 .0) .0) (within 1 65535 (ticksIn (v .0)) (c .1 .1 .0) .1))
-  keeps (StopTimer i) c = after-timers (c .0) (set (s .timers) i stoppedTimer) (rw (length-set (s .timers) i stoppedTimer) (o .few-timers)) (timers-set k (s .timers) i stoppedTimer (o .timers) refl)
-  keeps Tick c = ticks (c .0)
-
   -- the effect of an accepted call, where it leaves the scheduler started
   pub effected : (call : Call) → Clear (tests k (s .timers) call) → effect s call .scheduler .rows .started ≡ true → Effect (effect s call)
   unfolding tests effect
@@ -381,6 +355,31 @@ module _ {s : State} (o : Sound s) where
       (within 1 65535 (ticksIn (v .0)) (c .1 .1 .0) .0) (within 1 65535 (ticksIn (v .0)) (c .1 .1 .0) .1))
   effected (StopTimer i) c e = timed o (on (c .0)) (set (s .timers) i stoppedTimer) (rw (length-set (s .timers) i stoppedTimer) (o .few-timers)) (timers-set k (s .timers) i stoppedTimer (o .timers) refl)
   effected Tick c e = ticking (c .0)
+
+  -- then the next thread is chosen
+  chosen-after : (call : Call) → Clear (tests k (s .timers) call) → effect s call .scheduler .rows .started ≡ true → Sound (after s call)
+  unfolding after
+  chosen-after call c e = finished (isTick call) (effect s call) (effected call c e)
+
+  -- a call that is open only while started leaves it started
+  still-on : (call : Call) → Clear (tests k (s .timers) call) → not (k .started) ≡ false → effect s call .scheduler .rows .started ≡ k .started → Sound (after s call)
+  still-on call c going-on e = chosen-after call c (e ∙ on going-on)
+
+  keeps : (call : Call) → Clear (tests k (s .timers) call) → Sound (after s call)
+  unfolding tests
+  keeps Start c = begun (c .0)
+  keeps (CreateThread b) c = created-thread o b (leb-false 32 (length (k .threads)) (c .1 .0)) (within 1 15 b (c .0) .0) (within 1 15 b (c .0) .1)
+  keeps (CreateMutex b) c = created-mutex o b (leb-false 16 (length (k .mutexes)) (c .1 .0)) (within 1 15 b (c .0) .0) (within 1 15 b (c .0) .1)
+  keeps CreateCondition c = created-condition o (leb-false 16 (length (k .ties)) (c .0))
+  keeps CreateTimer c = created-timer o (leb-false 32 (length (s .timers)) (c .0))
+  keeps (Acquire m) c = still-on (Acquire m) c (c .0) (unfold effect in (acquires (c .0) m c .started))
+  keeps (Release m) c = still-on (Release m) c (c .0) (unfold effect in (releases (c .0) m c .started))
+  keeps (Wait d m) c = still-on (Wait d m) c (c .0) (unfold effect in (waiting (c .0) d m c .started))
+  keeps (Signal d) c = still-on (Signal d) c (c .0) (unfold effect in (left-signalled (kept o) (going o (on (c .0))) d (leb-false (length (k .ties)) d (c .1 .0)) .started))
+  keeps (Broadcast d) c = still-on (Broadcast d) c (c .0) (unfold effect in (left-times 32 (kept o) (going o (on (c .0))) d (leb-false (length (k .ties)) d (c .1 .0)) .started))
+  keeps (StartTimer i d kind v) c = still-on (StartTimer i d kind v) c (c .0) (unfold effect in refl)
+  keeps (StopTimer i) c = still-on (StopTimer i) c (c .0) (unfold effect in refl)
+  keeps Tick c = ticks (c .0)
 
   -- a call of a sound state leaves a sound state, accepted or refused
   pub sound-stays : (call : Call) → Sound (stepSound s call .state)

@@ -4,10 +4,11 @@ use mathlib.Core.Path.{_≡_, refl}
 use mathlib.Core.List.{List, [], _∷_}
 use lib.ListN.{getD}
 use lib.Count.{trailingZeros}
+use Rattle.laws.specs.Lists.{tabulate}
 use Rattle.laws.specs.Bits.{wordOf, among, holds}
 use Rattle.wheel.specs.declared.Wheel.{Wheel}
 use Rattle.wheel.specs.Hung.{empty}
-use Rattle.wheel.specs.Wheels.{table, spokeOf, turnsOf, hangs, wheelOf, idsOf}
+use Rattle.wheel.specs.Wheels.{spokeOf, turnsOf, hangs, wheelOf, idsOf}
 use Rattle.wheel.specs.Inside.{bitOf, hungOn, startedIn, visit, visited, moved, cleared, tickedIn}
 
 -- the wheel at a tick count with timer 0 started for n ticks
@@ -27,5 +28,5 @@ next w = tickedIn w .wheel .position ∷ idsOf (tickedIn w .due)
 pub E4-E5 :
     (place (begun 0 64) ∷ place (begun 0 65) ∷ place (begun 0 128) ∷ next (begun 4294967295 1) ∷ [])
     ≡ (0 ∷ 0 ∷ []) ∷ (1 ∷ 1 ∷ []) ∷ (0 ∷ 1 ∷ []) ∷ ((4294967295 + 1) % 4294967296 ∷ 0 ∷ []) ∷ []
-unfolding empty table spokeOf turnsOf hangs wheelOf bitOf hungOn startedIn visit visited moved cleared tickedIn idsOf wordOf among holds trailingZeros
+unfolding empty tabulate spokeOf turnsOf hangs wheelOf bitOf hungOn startedIn visit visited moved cleared tickedIn idsOf wordOf among holds trailingZeros
 E4-E5 = refl

@@ -9,10 +9,10 @@ use lib.ListN.{length, getD}
 use lib.Seq.{ext-getD}
 use lib.Dec.{eqb, ltb}
 use borrow.Author.Tests.{eqb-true, eqb-false, lt-ltb, le-ltb}
+use Rattle.laws.specs.Lists.{getD-tabulate, length-tabulate, tabulate}
 use Rattle.laws.specs.Bools.{by-cases}
 use Rattle.wheel.specs.Hung.{Hung, left, empty, withLeft, started}
-use Rattle.wheel.specs.Wheels.{table}
-use Rattle.wheel.proofs.Tables.{table-at, table-length}
+use Rattle.wheel.specs.Wheels.{}
 use Rattle.wheel.proofs.Visits.{unchanged, changed, at-k}
 
 -- the ticks left of a timer of the row if it is seen, and none if not
@@ -21,11 +21,11 @@ given row seen i = cond seen (getD row i 0) 0
 
 -- the timers below k hung as in the row, the others stopped
 abbrev pub filled : ℕ → List ℕ → ℕ → Hung
-filled p row k = record { position = p; lefts = table 32 (λ i. given row (ltb i k) i) }
+filled p row k = record { position = p; lefts = tabulate 32 (λ i. given row (ltb i k) i) }
 
 -- at first every timer is stopped
 pub fill-none : (count : ℕ) (row : List ℕ) → filled (count % 64) row 0 ≡ empty count
-unfolding table empty
+unfolding tabulate empty
 fill-none count row = refl
 
 -- starting the timer k for its ticks left in the row fills one timer more, also where the row has 0
@@ -40,7 +40,7 @@ fill-next p row k l =
 -- with every timer filled it is the row
 pub fill-all : (p : ℕ) (row : List ℕ) → length row ≡ 32 → filled p row 32 .lefts ≡ row
 fill-all p row e =
-    ext-getD 0 _ row (table-length 32 (λ i. given row (ltb i 32) i) ∙ sym e)
-    (λ i l. at i (omega (arith, table-length 32 (λ j. given row (ltb j 32) j)))) where
+    ext-getD 0 _ row (length-tabulate 32 (λ i. given row (ltb i 32) i) ∙ sym e)
+    (λ i l. at i (omega (arith, length-tabulate 32 (λ j. given row (ltb j 32) j)))) where
       at : (i : ℕ) → i < 32 → left (filled p row 32) i ≡ getD row i 0
-      at i m = table-at 32 (λ j. given row (ltb j 32) j) i 0 m ∙ rw (lt-ltb i 32 m)
+      at i m = getD-tabulate 32 (λ j. given row (ltb j 32) j) i 0 m ∙ rw (lt-ltb i 32 m)

@@ -10,13 +10,13 @@ use lib.Seq.{getD-set-same, getD-set-other, set-getD}
 use lib.Dec.{eqb, ltb}
 use lib.Bits.{bitOr, bitXor}
 use borrow.Author.Tests.{eq-eqb, ne-eqb, eqb-true, eqb-false, lt-ltb, le-ltb, lt-leb, le-leb, ltb-true, ltb-false}
+use Rattle.laws.specs.Lists.{getD-tabulate, set-tabulate-below, tabulate}
 use Rattle.laws.specs.Bools.{by-cases, or-false, or-right}
 use Rattle.laws.specs.Bits.{wordOf, word-same, or-words, xor-words, xor-false}
 use Rattle.wheel.specs.declared.Wheel.{Wheel}
 use Rattle.wheel.specs.Hung.{Hung, Good, left, withLeft, started, stopped}
-use Rattle.wheel.specs.Wheels.{table, spokeOf, turnsOf, hangs, wheelOf}
+use Rattle.wheel.specs.Wheels.{spokeOf, turnsOf, hangs, wheelOf}
 use Rattle.wheel.specs.Inside.{bitOf, hungOn, startedIn, takenOff, stoppedIn, leftIn}
-use Rattle.wheel.proofs.Tables.{table-at, table-set}
 use Rattle.wheel.proofs.Turning.{off, none, on, way}
 use Rattle.wheel.proofs.Visits.{bit-word}
 
@@ -44,11 +44,11 @@ module _ (h : Hung) (i r : ℕ) where
   unfolding hangs
   hangs-same s l = rw (left-same l, position-same)
 
-  -- a table of what each timer's ticks left make has one entry changed
+  -- a tabulate of what each timer's ticks left make has one entry changed
   entry-changed : (f : ℕ → ℕ) → i < length (h .lefts) → i < 32 → (v : ℕ) → v ≡ f r
-      → set (table 32 (λ j. f (left h j))) i v ≡ table 32 (λ j. f (left (withLeft h i r) j))
+      → set (tabulate 32 (λ j. f (left h j))) i v ≡ tabulate 32 (λ j. f (left (withLeft h i r) j))
   entry-changed f m l v e =
-      table-set 32 (λ j. f (left h j)) (λ j. f (left (withLeft h i r) j)) i v l (rw (left-same m) e) (λ j k o. rw (left-other j o))
+      set-tabulate-below 32 (λ j. f (left h j)) (λ j. f (left (withLeft h i r) j)) i v l (rw (left-same m) e) (λ j k o. rw (left-other j o))
 
   -- a wheel agrees with that of the changed timer if its spokes do, and the timer's own turns and spoke
   changed : (g : Good h) → i < 32 → (spokes : List ℕ) → spokes ≡ wheelOf (withLeft h i r) .spokes
@@ -79,22 +79,22 @@ module _ (h : Hung) (i r : ℕ) where
   unfolding wheelOf
   spokes-changed s w p k e a b o =
       let here : wordOf 32 p ≡ wordOf 32 (hangs (withLeft h i r) s) = word-but p s (λ j n. a j n ∙ hangs-other s j n) b in
-      table-set 64 (λ z. wordOf 32 (hangs h z)) (λ z. wordOf 32 (hangs (withLeft h i r) z)) s w k (e ∙ here)
+      set-tabulate-below 64 (λ z. wordOf 32 (hangs h z)) (λ z. wordOf 32 (hangs (withLeft h i r) z)) s w k (e ∙ here)
       (λ z m n. word-but (hangs h z) z (λ j. hangs-other z j) (o z m n))
 
 -- what the operations read of a timer and a spoke
 module _ (h : Hung) where
   pub spoke-word : (s : ℕ) → s < 64 → getD (wheelOf h .spokes) s 0 ≡ wordOf 32 (hangs h s)
   unfolding wheelOf
-  spoke-word s l = table-at 64 (λ z. wordOf 32 (hangs h z)) s 0 l
+  spoke-word s l = getD-tabulate 64 (λ z. wordOf 32 (hangs h z)) s 0 l
 
   spoke-at : (i : ℕ) → i < 32 → getD (wheelOf h .spoke) i 0 ≡ spokeOf (h .position) (left h i)
   unfolding wheelOf
-  spoke-at i l = table-at 32 (λ j. spokeOf (h .position) (left h j)) i 0 l
+  spoke-at i l = getD-tabulate 32 (λ j. spokeOf (h .position) (left h j)) i 0 l
 
   turns-at : (i : ℕ) → i < 32 → getD (wheelOf h .turns) i 0 ≡ turnsOf (left h i)
   unfolding wheelOf
-  turns-at i l = table-at 32 (λ j. turnsOf (left h j)) i 0 l
+  turns-at i l = getD-tabulate 32 (λ j. turnsOf (left h j)) i 0 l
 
   pub position-at : wheelOf h .position ≡ h .position
   unfolding wheelOf

@@ -1,4 +1,3 @@
-pub mod Tables
 pub mod Turning
 pub mod Visits
 pub mod Walk

@@ -8,11 +8,11 @@ use lib.ListN.{length, getD, set, List·getD-map}
 use lib.Dec.{eqb, ltb}
 use lib.Bits.{bitXor}
 use borrow.Author.Tests.{lt-ltb}
+use Rattle.laws.specs.Lists.{getD-tabulate, set-tabulate-below, tabulate, tabulate-below}
 use Rattle.laws.specs.Bits.{wordOf, among, members, word-same, xor-words, members-word}
 use Rattle.wheel.specs.Hung.{Hung, Good, left, ticked, due}
-use Rattle.wheel.specs.Wheels.{table, spokeOf, turnsOf, hangs, wheelOf, dueOf, onNext, tickedOf}
+use Rattle.wheel.specs.Wheels.{spokeOf, turnsOf, hangs, wheelOf, dueOf, onNext, tickedOf}
 use Rattle.wheel.specs.Inside.{Midst, moved, cleared, tickedIn}
-use Rattle.wheel.proofs.Tables.{table-at, table-same, table-set}
 use Rattle.wheel.proofs.Turning.{ends, kept, others, spoke-after, turns-after}
 use Rattle.wheel.proofs.Visits.{visited-below, begun, turn, atEnd, home, After}
 use Rattle.wheel.proofs.Hanging.{spoke-word, hangs-at}
@@ -66,18 +66,18 @@ module _ (h : Hung) (g : Good h) (u : ℕ) (next : u ≡ (h .position + 1) % 64)
   unfolding wheelOf dueOf
   spokes-after =
       let m : u < 64 = omega arith in
-      let e : getD (table 64 (λ s. wordOf 32 (hangs h s))) u 0 ≡ wordOf 32 (hangs h u) = table-at 64 (λ s. wordOf 32 (hangs h s)) u 0 m in
-      table-set 64 (λ s. wordOf 32 (hangs h s)) (λ s. wordOf 32 (hangs (ticked h) s)) u _ m
+      let e : getD (tabulate 64 (λ s. wordOf 32 (hangs h s))) u 0 ≡ wordOf 32 (hangs h u) = getD-tabulate 64 (λ s. wordOf 32 (hangs h s)) u 0 m in
+      set-tabulate-below 64 (λ s. wordOf 32 (hangs h s)) (λ s. wordOf 32 (hangs (ticked h) s)) u _ m
       (rw (e, xor-words 32 (hangs h u) (λ i. eqb (left h i) 1)) (word-same 32 _ _ (λ i l. on-next i)))
       (λ s l n. word-same 32 _ _ (λ i k. on-others s i l n))
 
-  turns-table : table 32 (λ i. turn (hangs h u) (turnsNow h) (ltb i 32) i) ≡ wheelOf (ticked h) .turns
+  turns-table : tabulate 32 (λ i. turn (hangs h u) (turnsNow h) (ltb i 32) i) ≡ wheelOf (ticked h) .turns
   unfolding wheelOf hangs
-  turns-table = table-same 32 _ _ (λ i l. rw (lt-ltb i 32 l, left-ticked h i) (turns-after (h .position) u (g .place) next (left h i)))
+  turns-table = tabulate-below 32 _ _ (λ i l. rw (lt-ltb i 32 l, left-ticked h i) (turns-after (h .position) u (g .place) next (left h i)))
 
-  spoke-table : table 32 (λ i. home (hangs h u) (turnsNow h) (spokeNow h) (ltb i 32) i) ≡ wheelOf (ticked h) .spoke
+  spoke-table : tabulate 32 (λ i. home (hangs h u) (turnsNow h) (spokeNow h) (ltb i 32) i) ≡ wheelOf (ticked h) .spoke
   unfolding wheelOf
-  spoke-table = table-same 32 _ _ (λ i l. rw (end-is-one i l, left-ticked h i, position-after) (spoke-after (h .position) u (g .place) next (left h i)))
+  spoke-table = tabulate-below 32 _ _ (λ i l. rw (end-is-one i l, left-ticked h i, position-after) (spoke-after (h .position) u (g .place) next (left h i)))
 
   position-table : u ≡ wheelOf (ticked h) .position
   unfolding wheelOf

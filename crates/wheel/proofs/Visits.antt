@@ -10,12 +10,12 @@ use lib.ListN.{length, length-append, getD, set}
 use lib.Dec.{eqb, ltb}
 use lib.Bits.{bitOr}
 use borrow.Author.Tests.{eq-eqb, ne-eqb, eqb-true, eqb-false, lt-ltb, le-ltb, lt-leb, ltb-true, ltb-false}
+use Rattle.laws.specs.Lists.{getD-tabulate, set-tabulate-below, tabulate, tabulate-below}
 use Rattle.laws.specs.Bools.{by-cases, or-false, or-right}
 use Rattle.laws.specs.Bits.{wordOf, among, put, word-same, word-none, word-one, or-words, among-next}
 use Rattle.wheel.specs.declared.Ticked.{Ticked}
-use Rattle.wheel.specs.Wheels.{table}
+use Rattle.wheel.specs.Wheels.{}
 use Rattle.wheel.specs.Inside.{bitOf, Midst, visit, visited}
-use Rattle.wheel.proofs.Tables.{table-at, table-same, table-set}
 
 -- the bit of an id that is one of the 32 is a word of that id alone
 pub bit-word : (i : ℕ) → i < 32 → bitOf i ≡ wordOf 32 (λ j. eqb j i)
@@ -52,15 +52,15 @@ module _ {A : Type 0} (F : Bool → ℕ → A) (k : ℕ) where
       (λ h. rw (eqb-true j k h, below-self k, below-next k) e)
       (λ h. elsewhere j (eqb-false j k h))
 
-  pub unchanged : F false k ≡ F true k → table 32 (λ i. F (ltb i k) i) ≡ table 32 (λ i. F (ltb i (suc k)) i)
-  unchanged e = table-same 32 _ _ (λ j h. nowhere e j)
+  pub unchanged : F false k ≡ F true k → tabulate 32 (λ i. F (ltb i k) i) ≡ tabulate 32 (λ i. F (ltb i (suc k)) i)
+  unchanged e = tabulate-below 32 _ _ (λ j h. nowhere e j)
 
-  pub changed : k < 32 → (v : A) → v ≡ F true k → set (table 32 (λ i. F (ltb i k) i)) k v ≡ table 32 (λ i. F (ltb i (suc k)) i)
+  pub changed : k < 32 → (v : A) → v ≡ F true k → set (tabulate 32 (λ i. F (ltb i k) i)) k v ≡ tabulate 32 (λ i. F (ltb i (suc k)) i)
   changed h v e =
-      table-set 32 (λ i. F (ltb i k) i) (λ i. F (ltb i (suc k)) i) k v h (rw (below-next k) e) (λ j l n. elsewhere j n)
+      set-tabulate-below 32 (λ i. F (ltb i k) i) (λ i. F (ltb i (suc k)) i) k v h (rw (below-next k) e) (λ j l n. elsewhere j n)
 
-  pub at-k : (d : A) → k < 32 → getD (table 32 (λ i. F (ltb i k) i)) k d ≡ F false k
-  at-k d h = table-at 32 (λ i. F (ltb i k) i) k d h ∙ rw (below-self k)
+  pub at-k : (d : A) → k < 32 → getD (tabulate 32 (λ i. F (ltb i k) i)) k d ≡ F false k
+  at-k d h = getD-tabulate 32 (λ i. F (ltb i k) i) k d h ∙ rw (below-self k)
 
 module _ (F : Bool → ℕ → Bool) (k : ℕ) where
   word-unchanged : F false k ≡ F true k → wordOf 32 (λ i. F (ltb i k) i) ≡ wordOf 32 (λ i. F (ltb i (suc k)) i)
@@ -92,21 +92,21 @@ module _ (spokes : List ℕ) (position : ℕ) (q : ℕ → Bool) (T S : ℕ → 
       Midst
       (record {
         spokes = spokes;
-        turns = table 32 (λ i. turn q T (ltb i k) i);
-        spoke = table 32 (λ i. home q T S (ltb i k) i);
+        turns = tabulate 32 (λ i. turn q T (ltb i k) i);
+        spoke = tabulate 32 (λ i. home q T S (ltb i k) i);
         position = position;
       })
       (wordOf 32 (λ i. atEnd q T (ltb i k) i))
       (length (among k q))
 
   -- before any visit
-  pub begun : After 0 ≡ Midst (record { spokes = spokes; turns = table 32 T; spoke = table 32 S; position = position }) 0 0
+  pub begun : After 0 ≡ Midst (record { spokes = spokes; turns = tabulate 32 T; spoke = tabulate 32 S; position = position }) 0 0
   unfolding After among
   begun =
       let z : (i : ℕ) → ltb i 0 ≡ false = λ i. le-ltb i 0 (omega arith) in
       rw (
-        table-same 32 (λ i. turn q T (ltb i 0) i) T (λ i l. rw (z i)),
-        table-same 32 (λ i. home q T S (ltb i 0) i) S (λ i l. rw (z i)),
+        tabulate-below 32 (λ i. turn q T (ltb i 0) i) T (λ i l. rw (z i)),
+        tabulate-below 32 (λ i. home q T S (ltb i 0) i) S (λ i l. rw (z i)),
         word-none 32 (λ i. atEnd q T (ltb i 0) i) (λ i l. rw (z i)),
       )
 

@@ -5,16 +5,12 @@ use mathlib.Core.Bool.{Bool, cond}
 use mathlib.Core.List.{List, [], _∷_}
 use lib.ListN.{length}
 use lib.Dec.{eqb}
+use Rattle.laws.specs.Lists.{tabulate}
 use Rattle.laws.specs.Bits.{wordOf, among, members}
 use Rattle.wheel.specs.Hung.{Hung, left, ticked}
 use Rattle.wheel.specs.declared.Wheel.{Wheel}
 use Rattle.wheel.specs.declared.Due.{Due}
 use Rattle.wheel.specs.declared.Ticked.{Ticked}
-
--- the value of f at each number below k
-unfoldable pub table : {A : Type 0} → ℕ → (ℕ → A) → List A
-table zero f = []
-table (suc k) f = f 0 ∷ table k (λ i. f (suc i))
 
 -- at tick count t, mod 64, a timer with r ticks left hangs on spoke (t + r) mod 64, and a stopped one on none
 unfoldable pub spokeOf : ℕ → ℕ → ℕ
@@ -32,9 +28,9 @@ hangs h s i = eqb (spokeOf (h .position) (left h i)) s
 unfoldable pub wheelOf : Hung → Wheel
 wheelOf h =
     record {
-      spokes = table 64 (λ s. wordOf 32 (hangs h s));
-      turns = table 32 (λ i. turnsOf (left h i));
-      spoke = table 32 (λ i. spokeOf (h .position) (left h i));
+      spokes = tabulate 64 (λ s. wordOf 32 (hangs h s));
+      turns = tabulate 32 (λ i. turnsOf (left h i));
+      spoke = tabulate 32 (λ i. spokeOf (h .position) (left h i));
       position = h .position;
     }
 

@@ -1,8 +1,9 @@
 -- `wheel::Wheel::empty` meets its contract: every table of a wheel with no timer running is of one value. Assumes nothing.
 use borrow.Author.Needs.{needs}
 use mathlib.Core.Path.{refl}
+use Rattle.laws.specs.Lists.{tabulate}
 use Rattle.wheel.specs.Hung.{empty}
-use Rattle.wheel.specs.Wheels.{wheelOf, table, spokeOf, turnsOf, hangs}
+use Rattle.wheel.specs.Wheels.{wheelOf, spokeOf, turnsOf, hangs}
 use Rattle.laws.specs.Bits.{wordOf}
 use Rattle.wheel.proofs.Wheel.empty.Statement.{statement}
 use Rattle.wheel.proofs.Wheel.empty.Tie as tie
@@ -11,7 +12,7 @@ cast-position : tie.Need-cast-position
 cast-position c = search needs
 
 returns : tie.Need-returns
-unfolding wheelOf table empty wordOf hangs spokeOf turnsOf
+unfolding wheelOf tabulate empty wordOf hangs spokeOf turnsOf
 returns c = refl
 
 pub empty-spec : {M : Type 1} → statement M
