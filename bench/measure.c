@@ -1,4 +1,5 @@
-/* measure SETUP LOOP REPEATS: nanoseconds for each call of a mix, whose rows are in two binary files. */
+/* measure SETUP LOOP REPEATS: nanoseconds for each call of a mix, whose rows are in two binary files.
+   With PROVED_KERNEL the calls are those of the proved kernel's static library, else of the plain one. */
 #define _POSIX_C_SOURCE 200809L
 
 #include "kernel.h"
@@ -12,12 +13,6 @@ enum { ROWS = 1024 };
 struct rows {
     size_t count;
     uint8_t row[ROWS][ROW];
-};
-
-/* The sum of the answers is printed, so that no compiler drops a call; it is the same for every right kernel. */
-struct tally {
-    uint64_t checksum;
-    uint8_t refused;
 };
 
 /* Reads a file of whole rows; false if that cannot be done. */
@@ -35,6 +30,44 @@ static bool read_rows(const char *path, struct rows *rows)
     rows->count = length / ROW;
     return whole;
 }
+
+/* The time now in nanoseconds, on a clock that is never set back. */
+static double now(void)
+{
+    struct timespec time;
+
+    clock_gettime(CLOCK_MONOTONIC, &time);
+    return (double)time.tv_sec * 1e9 + (double)time.tv_nsec;
+}
+
+/* What a measurement found, in words. */
+static void report(double took, double calls, uint64_t checksum)
+{
+    printf("%.3f ns per call, %.0f calls, checksum %llu\n", took / calls, calls, (unsigned long long)checksum);
+}
+
+#ifdef PROVED_KERNEL
+
+/* The proved kernel, from boot: the setup once, the rows so often, and the sum of the answers to these. */
+uint64_t run_rows(const uint8_t *setup, size_t setup_length, const uint8_t *rows, size_t length, uint64_t repeats);
+
+/* Runs the setup once and the loop so often, and prints the time; what is refused shows in the checksum. */
+static bool measure(const struct rows *setup, const struct rows *loop, unsigned long repeats)
+{
+    double began = now();
+    uint64_t checksum = run_rows(setup->row[0], setup->count * ROW, loop->row[0], loop->count * ROW, repeats);
+
+    report(now() - began, (double)loop->count * (double)repeats, checksum);
+    return true;
+}
+
+#else
+
+/* The sum of the answers is printed, so that no compiler drops a call; it is the same for every right kernel. */
+struct tally {
+    uint64_t checksum;
+    uint8_t refused;
+};
 
 /* Answers the rows in order, as often as asked. */
 static struct tally run_rows(struct kernel *kernel, const struct rows *rows, unsigned long repeats)
@@ -54,30 +87,22 @@ static struct tally run_rows(struct kernel *kernel, const struct rows *rows, uns
     return tally;
 }
 
-/* The time now in nanoseconds, on a clock that is never set back. */
-static double now(void)
-{
-    struct timespec time;
-
-    clock_gettime(CLOCK_MONOTONIC, &time);
-    return (double)time.tv_sec * 1e9 + (double)time.tv_nsec;
-}
-
 /* Runs the setup once and the loop so often, and prints the time of the loop; false if a call was refused. */
 static bool measure(const struct rows *setup, const struct rows *loop, unsigned long repeats)
 {
     struct kernel kernel;
     struct tally before, tally;
-    double began, took, calls = (double)loop->count * (double)repeats;
+    double began;
 
     boot(&kernel);
     before = run_rows(&kernel, setup, 1);
     began = now();
     tally = run_rows(&kernel, loop, repeats);
-    took = now() - began;
-    printf("%.3f ns per call, %.0f calls, checksum %llu\n", took / calls, calls, (unsigned long long)tally.checksum);
+    report(now() - began, (double)loop->count * (double)repeats, tally.checksum);
     return before.refused == DONE && tally.refused == DONE;
 }
+
+#endif
 
 /* Reads the command line; exit status 1 for a mix that cannot be read or is refused, since its time means nothing. */
 int main(int count, char **words)
