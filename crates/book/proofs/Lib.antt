@@ -1,0 +1,17 @@
+pub mod Marks
+pub mod Alike
+pub mod Search
+pub mod Moves
+pub mod Calls
+pub mod Next
+pub mod Creating
+pub mod Timers
+pub mod Enough
+pub mod Same
+pub mod Effects
+pub mod Steps
+pub mod Pages
+pub mod Demand
+pub mod Woken
+pub mod Corollaries
+pub mod Examples
