@@ -157,11 +157,10 @@ impl Kernel {
         ensures { λ r. ⌜ r ≡ refusedModel self verdict ⌝ }
     {
         let n = number(verdict);
-        let scheduler = self.scheduler;
         let answer = Answer {
             number: n,
             given: 255,
-            running: scheduler.running,
+            running: self.scheduler.running,
         };
         Stepped {
             kernel: self,
@@ -187,11 +186,10 @@ impl Kernel {
                 answer,
             };
         }
-        let scheduler = self.scheduler;
         let answer = Answer {
             number: 0,
             given,
-            running: scheduler.running,
+            running: self.scheduler.running,
         };
         Stepped {
             kernel: self,
@@ -477,6 +475,10 @@ impl Kernel {
         let due = ticked.due;
         self.wheel = after;
         self.count = ((self.count as u64 + 1) % 4294967296) as u32;
+        let first = due.first();
+        if 32 <= first {
+            return self.answered(0, true);
+        }
         let effect = self.serve_all(due);
         let served = effect.kernel;
         served.answered(effect.given, true)

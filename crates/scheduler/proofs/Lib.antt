@@ -1,2 +1,3 @@
 pub mod Broadcasting
 pub mod Searching
+pub mod Settling

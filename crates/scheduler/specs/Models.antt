@@ -71,6 +71,10 @@ unfoldable pub highestIn : List Mutex → ℕ → ℕ
 highestIn [] t = 0
 highestIn (m ∷ ms) t = max (ceilingFor m t) (highestIn ms t)
 
+-- the threads with the stored priority of thread t as it follows from its base and its mutexes
+unfoldable pub settledIn : Threads → List Mutex → ℕ → Threads
+settledIn a mutexes t = cond (ltb t 32) (liftModel a t (max (getD (a .rows) t parts.blank .base) (highestIn mutexes t))) a
+
 -- the stored priority of thread t follows from its base and its mutexes
 unfoldable pub settleModel : Scheduler → ℕ → Scheduler
 settleModel x t = cond (ltb t 32) (withThreads x (liftModel (x .threads) t (max (getD (x .threads .rows) t parts.blank .base) (highestIn (x .mutexes) t)))) x

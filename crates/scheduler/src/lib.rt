@@ -6,7 +6,7 @@ use parts::highest_first;
 use queue::Queues;
 ghost use mathlib.Core.Path.{_≡_};
 ghost use Prim.Native.Nat.{max};
-ghost use Rattle.scheduler.specs.Models.{ceilingFor, highestIn, settleModel, ownModel, recountModel, waitForModel, waitOnModel, createModel, passModel, acquireModel, releaseModel, waitModel, wakeModel, signalModel, broadcastModel, runFirstModel, chooseNextModel, createMutexModel, rowModel};
+ghost use Rattle.scheduler.specs.Models.{ceilingFor, highestIn, settledIn, ownModel, recountModel, waitForModel, waitOnModel, createModel, passModel, acquireModel, releaseModel, waitModel, wakeModel, signalModel, broadcastModel, runFirstModel, chooseNextModel, createMutexModel, rowModel};
 
 // A mutex's row: its ceiling, its owner, 255 for none, and its count.
 pub struct Mutex {
@@ -67,25 +67,22 @@ pub fn highest_ceiling(mutexes: [Mutex; 16], t: u8) -> u8
     best
 }
 
-impl Scheduler {
-    // The stored priority of thread t is that of its base and the ceilings that it owns; 32 or more is no thread.
-    pub fn settle(mut self, t: u8) -> Scheduler
-        ensures { λ r. ⌜ r ≡ settleModel self t ⌝ }
-    {
-        if 32 <= t {
-            return self;
-        }
-        let i = t as usize;
-        let threads = self.threads;
-        let row = threads.rows[i];
-        let mutexes = self.mutexes;
-        let ceiling = highest_ceiling(mutexes, t);
-        let priority = larger(row.base, ceiling);
-        let lifted = threads.lift(t, priority);
-        self.threads = lifted;
-        self
+// The stored priority of thread t is that of its base and the ceilings that it owns; 32 or more is no thread.
+// It works on the threads alone, since the whole scheduler is seven times as long.
+fn settle(threads: Threads, mutexes: [Mutex; 16], t: u8) -> Threads
+    ensures { λ r. ⌜ r ≡ settledIn threads mutexes t ⌝ }
+{
+    if 32 <= t {
+        return threads;
     }
+    let i = t as usize;
+    let row = threads.rows[i];
+    let ceiling = highest_ceiling(mutexes, t);
+    let priority = larger(row.base, ceiling);
+    threads.lift(t, priority)
+}
 
+impl Scheduler {
     // Mutex m has owner t and count n, and the priorities of its old and new owner follow.
     pub fn own(mut self, m: u8, t: u8, n: u8) -> Scheduler
         ensures { λ r. ⌜ r ≡ ownModel self m t n ⌝ }
@@ -98,8 +95,12 @@ impl Scheduler {
             owner: t,
             count: n,
         };
-        let settled = self.settle(old);
-        settled.settle(t)
+        let mutexes = self.mutexes;
+        let threads = self.threads;
+        let settled = settle(threads, mutexes, old);
+        let after = settle(settled, mutexes, t);
+        self.threads = after;
+        self
     }
 
     // Mutex m has count n.

@@ -13,7 +13,7 @@ returns c = rw (c .before .before .if1 .taken, ← c .choose-next .ensures)
 
 returns-2 : tie.Need-returns-2
 unfolding answeredModel
-returns-2 c = rw (c .before .if1 .left)
+returns-2 c = rw (c .if1 .left)
 
 pub answered-spec : {M : Type 1} → statement M
 answered-spec = tie.close (tie.spec choose-next-requires returns returns-2)

@@ -9,7 +9,7 @@ number-requires c κs = search needs
 
 returns : tie.Need-returns
 unfolding refusedModel
-returns c = rw (c .before .number .ensures)
+returns c = rw (c .number .ensures)
 
 pub refused-spec : {M : Type 1} → statement M
 refused-spec = tie.close (tie.spec number-requires returns)

@@ -1,5 +1,6 @@
 -- `Scheduler::own` meets its contract: each call by its own. Assumes nothing.
 use Rattle.scheduler.specs.Models.{ownModel}
+use Rattle.scheduler.proofs.Settling.{settle-both}
 use borrow.Author.Needs.{needs}
 use Rattle.scheduler.proofs.Scheduler.own.Statement.{statement}
 use Rattle.scheduler.proofs.Scheduler.own.Tie as tie
@@ -13,8 +14,8 @@ mul-row c = search needs
 element-copy-out-row : tie.Need-element-copy-out-row
 element-copy-out-row c = search needs
 
-mul-t11 : tie.Need-mul-t11
-mul-t11 c = search needs
+mul-t14 : tie.Need-mul-t14
+mul-t14 c = search needs
 
 element-set-from-self : tie.Need-element-set-from-self
 element-set-from-self c = search needs
@@ -27,7 +28,7 @@ settle-requires-2 c κs = search needs
 
 returns : tie.Need-returns
 unfolding ownModel
-returns c = rw (c .settle2 .ensures, c .before .settle .ensures)
+returns c = rw (c .settle2 .ensures, c .before .settle .ensures) (settle-both _ _ _)
 
 pub own-spec : {M : Type 1} → statement M
 own-spec =
@@ -36,7 +37,7 @@ own-spec =
     cast-i
     mul-row
     element-copy-out-row
-    mul-t11
+    mul-t14
     element-set-from-self
     settle-requires
     settle-requires-2

@@ -1,12 +1,12 @@
--- `Scheduler::settle` meets its contract: by its test, and each call by its own. Assumes nothing.
+-- `settle` meets its contract: by its test, and each call by its own. Assumes nothing.
 use borrow.Author.Tests.{le-ltb, lt-ltb}
-use Rattle.scheduler.specs.Models.{settleModel}
+use Rattle.scheduler.specs.Models.{settledIn}
 use borrow.Author.Needs.{needs}
-use Rattle.scheduler.proofs.Scheduler.settle.Statement.{statement}
-use Rattle.scheduler.proofs.Scheduler.settle.Tie as tie
+use Rattle.scheduler.proofs.settle.Statement.{statement}
+use Rattle.scheduler.proofs.settle.Tie as tie
 
 returns : tie.Need-returns
-unfolding settleModel
+unfolding settledIn
 returns c = rw (le-ltb _ _ (c .if1 .taken))
 
 mul-row : tie.Need-mul-row
@@ -25,8 +25,8 @@ lift-requires : tie.Need-lift-requires
 lift-requires c κs = search needs
 
 returns-2 : tie.Need-returns-2
-unfolding settleModel
-returns-2 c = rw (lt-ltb _ _ (c .before .before .before .before .before .before .if1 .left), c .lift .ensures, c .before .larger .ensures, c .before .before .highest-ceiling .ensures)
+unfolding settledIn
+returns-2 c = rw (lt-ltb _ _ (c .before .before .before .before .if1 .left), c .lift .ensures, c .before .larger .ensures, c .before .before .highest-ceiling .ensures)
 
 pub settle-spec : {M : Type 1} → statement M
 settle-spec =
