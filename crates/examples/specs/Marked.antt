@@ -1,0 +1,51 @@
+-- Document 01's marked examples, all twelve, as one table: those of the record and of the wheel, and behind them those of the calls.
+-- Assumes nothing.
+use Prim.Native.Nat.{ℕ}
+use mathlib.Core.List.{List, [], _∷_}
+use lib.ListN.{getD, set, take}
+use Rattle.calls.specs.Answers.{numberOf}
+use Rattle.rules.specs.State.{boot}
+use Rattle.rules.specs.Examples.{Example, table}
+use Rattle.saved.specs.Loading.{load, saved}
+use Rattle.wheel.specs.declared.Wheel.{Wheel}
+use Rattle.wheel.specs.Hung.{empty}
+use Rattle.wheel.specs.Wheels.{wheelOf, idsOf}
+use Rattle.wheel.specs.Inside.{startedIn, tickedIn}
+
+-- 01 00 00 00 00 00 00 00 18 00 1C 00 1C 00 1C 00 1C 00 00 00 00 00 00 00 00 01 FF 00
+abbrev pub bootBytes : List ℕ
+bootBytes =
+    1 ∷ 0 ∷ 0 ∷ 0 ∷ 0 ∷ 0 ∷ 0 ∷ 0
+    ∷ 24 ∷ 0 ∷ 28 ∷ 0 ∷ 28 ∷ 0 ∷ 28 ∷ 0
+    ∷ 28 ∷ 0 ∷ 0 ∷ 0 ∷ 0 ∷ 0 ∷ 0 ∷ 0
+    ∷ 0 ∷ 1 ∷ 255 ∷ 0 ∷ []
+
+-- the number that a load answers
+abbrev pub loadAnswer : List ℕ → ℕ
+loadAnswer bytes = numberOf (load bytes .answer)
+
+-- the wheel at a tick count, with timer 0 started for n ticks
+abbrev pub begun : ℕ → ℕ → Wheel
+begun count n = startedIn (wheelOf (empty count)) 0 n
+
+-- the spoke and the turns of timer 0
+abbrev pub spokeAndTurns : Wheel → List ℕ
+spokeAndTurns w = getD (w .spoke) 0 0 ∷ getD (w .turns) 0 0 ∷ []
+
+-- the count after a tick, as the wheel has it, and who comes due at it
+abbrev pub countAndDue : Wheel → List ℕ
+countAndDue w = tickedIn w .wheel .position ∷ idsOf (tickedIn w .due)
+
+unfoldable pub marked : List Example
+marked =
+    -- E1 the boot record; it loads; 27 bytes of it: 15; its thread 0 with base 1: 1
+    record { shown = saved boot; seen = bootBytes }
+    ∷ record { shown = loadAnswer bootBytes ∷ loadAnswer (take 27 bootBytes) ∷ loadAnswer (set bootBytes 24 1) ∷ []; seen = 0 ∷ 15 ∷ 1 ∷ [] }
+    -- E4 count 0: 64 ticks give spoke 0, turns 0; 65 spoke 1, turns 1; 128 spoke 0, turns 1
+    ∷ record { shown = spokeAndTurns (begun 0 64); seen = 0 ∷ 0 ∷ [] }
+    ∷ record { shown = spokeAndTurns (begun 0 65); seen = 1 ∷ 1 ∷ [] }
+    ∷ record { shown = spokeAndTurns (begun 0 128); seen = 0 ∷ 1 ∷ [] }
+    -- E5 count 4,294,967,295, one tick: the next makes 0 and brings timer 0 due
+    ∷ record { shown = countAndDue (begun 4294967295 1); seen = 0 ∷ 0 ∷ [] }
+    -- E2, E3, E5 to E12
+    ∷ table
