@@ -43,8 +43,7 @@ unfolding codeAnswers codeFinal answersOf finalOf
 rows-step s e [] = (refl, refl)
 rows-step s e (row ∷ rows) =
     let one = row-steps s e row in
-    let others = rows-step (stepRow s row .state) (row-keeps s row e) rows in
-    (
+    let others = rows-step (stepRow s row .state) (row-keeps s row e) rows in (
       ap (λ r. r .answer ∷ codeAnswers (r .kernel) rows) one ∙ ap (λ rest. stepRow s row .answer ∷ rest) (others .0),
       ap (λ r. codeFinal (r .kernel) rows) one ∙ others .1,
     )
