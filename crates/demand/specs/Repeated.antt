@@ -3,15 +3,15 @@
 use Prim.Native.Nat.{ℕ}
 use mathlib.Core.List.{List, [], _∷_}
 use Rattle.calls.specs.declared.Answer.{Answer}
-use Rattle.kernel.specs.declared.Kernel.{Kernel}
+use Rattle.engine.specs.declared.Engine.{Engine}
 use Rattle.rows.specs.Rows.{rowModel}
 
 -- one answer for each row, in order
-unfoldable pub codeAnswers : Kernel → List (List ℕ) → List Answer
+unfoldable pub codeAnswers : Engine → List (List ℕ) → List Answer
 codeAnswers x [] = []
-codeAnswers x (row ∷ rows) = rowModel x row .answer ∷ codeAnswers (rowModel x row .kernel) rows
+codeAnswers x (row ∷ rows) = rowModel x row .answer ∷ codeAnswers (rowModel x row .engine) rows
 
--- the kernel after the last row
-unfoldable pub codeFinal : Kernel → List (List ℕ) → Kernel
+-- the engine after the last row
+unfoldable pub codeFinal : Engine → List (List ℕ) → Engine
 codeFinal x [] = x
-codeFinal x (row ∷ rows) = codeFinal (rowModel x row .kernel) rows
+codeFinal x (row ∷ rows) = codeFinal (rowModel x row .engine) rows

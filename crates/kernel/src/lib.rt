@@ -1,67 +1,29 @@
-// The kernel: the scheduler, the timers with their wheel, and the tick count; boot, and the thirteen calls.
-// An id is taken modulo the size of its table, so that every function is total; a call with an id that does not exist is refused first.
+// The kernel: boot, the thirteen calls, a call row, and whether the kernel is sound. Each call tests first that the kernel is sound, and hands
+// back the kernel that follows with its answer.
+use alike::same;
+use build::build;
 use calls::Answer;
 use calls::Call;
+use calls::Decoded;
 use calls::Kind;
-use calls::Verdict;
-use calls::number;
-use parts::Thread;
-use parts::Threads;
-use queue::Links;
-use queue::Queues;
-use scheduler::Mutex;
-use scheduler::Scheduler;
-use units::Length;
+use calls::decode;
+use checks::sound;
+use describe::describe;
+use engine::Engine;
+use rows::part_row;
 use units::Micros;
-use units::Ticks;
-use units::ticks_of;
-use verdicts::acquire_verdict;
-use verdicts::created_verdict;
-use verdicts::delay_verdict;
-use verdicts::first_of;
-use verdicts::held_verdict;
-use verdicts::id_verdict;
-use verdicts::ids_verdict;
-use verdicts::owned_by;
-use verdicts::release_verdict;
-use verdicts::room_verdict;
-use verdicts::start_verdict;
-use verdicts::stop_verdict;
-use wheel::Due;
-use wheel::Wheel;
 ghost use mathlib.Core.Path.{_≡_};
 ghost use mathlib.Core.Bool.{true};
-ghost use Rattle.rules.specs.State.{State, boot};
-ghost use Rattle.rules.specs.Sound.{sound};
-ghost use Rattle.rules.specs.Step.{step};
-ghost use Rattle.kernel.specs.Stands.{kernelOf, steppedOf};
-ghost use Rattle.wheel.specs.Wheels.{idsOf};
-ghost use Rattle.kernel.specs.Models.{bootModel, kindCode, lengthCode, refusedModel, answeredModel, startModel, createThreadModel, createMutexModel, createConditionModel, createTimerModel, acquireModel, releaseModel, waitModel, signalModel, broadcastModel, startTimerModel, stopTimerModel, serveModel, serveAllModel, tickModel, stepModel};
+ghost use mathlib.Core.Logic.{_↔_};
+ghost use Rattle.calls.specs.declared.Call.the-variants.{Start, CreateThread, CreateMutex, CreateCondition, CreateTimer, Acquire, Release, Wait, Signal, Broadcast, StartTimer, StopTimer, Tick};
+ghost use Rattle.calls.specs.declared.Decoded.the-variants.{Taken, WrongForm};
+ghost use Rattle.calls.specs.Rows.{decoded};
+ghost use Rattle.rules.specs.State.{boot};
+ghost use Rattle.kernel.specs.Kernels.{kernelOf, SoundKernel, refusal, Steps};
 
-// A timer's row: its state (0 stopped, 1 one-shot, 2 periodic), its condition variable, 255 for none, and its length in ticks.
-pub struct Timer {
-    pub state: u8,
-    pub condition: u8,
-    pub length: u16,
-}
-
-// The whole kernel. The four counts say how many rows of each table are in use.
+// A kernel is what its engine keeps. Any value of it is a kernel, sound or not.
 pub struct Kernel {
-    pub scheduler: Scheduler,
-    pub timers: [Timer; 32],
-    pub wheel: Wheel,
-    pub started: bool,
-    pub threads: u8,
-    pub mutexes: u8,
-    pub conditions: u8,
-    pub clocks: u8,
-    pub count: u32,
-}
-
-// The kernel that follows, and what was given.
-pub struct Effect {
-    pub kernel: Kernel,
-    pub given: u16,
+    pub engine: Engine,
 }
 
 // The kernel that follows, with its answer.
@@ -70,97 +32,38 @@ pub struct Stepped {
     pub answer: Answer,
 }
 
-// The timer state of a kind.
-fn state_of(kind: Kind) -> u8
-    ensures { λ r. ⌜ r ≡ kindCode kind ⌝ }
-{
-    match kind {
-        Kind::OneShot => 1,
-        Kind::Periodic => 2,
-    }
-}
-
-// The length in ticks of a delay, 0 where it is out of range.
-fn length_of(v: Micros) -> u16
-    ensures { λ r. ⌜ r ≡ lengthCode v ⌝ }
-{
-    let length = ticks_of(v);
-    match length {
-        Length::Whole(n) => n.0,
-        Length::OutOfRange => 0,
-    }
-}
-
-// The scheduler at boot: thread 0 is ready, none runs, and nothing else exists.
-fn first_scheduler() -> Scheduler
-    ensures { λ r. ⌜ r ≡ bootModel .scheduler ⌝ }
-{
-    let blank = Thread {
-        base: 0,
-        priority: 0,
-        state: 2,
-        object: 255,
-    };
-    let rows = [blank; 32];
-    let links = Links::empty();
-    let ready = Queues::empty();
-    let none = Threads { rows, links, ready };
-    let threads = none.arrive(0);
-    let free = Mutex {
-        ceiling: 0,
-        owner: 255,
-        count: 0,
-    };
-    let mutexes = [free; 16];
-    let empty = Queues::empty();
-    let formutex = [empty; 16];
-    let ties = [255u8; 16];
-    let oncondition = [empty; 16];
-    Scheduler {
-        threads,
-        mutexes,
-        formutex,
-        ties,
-        oncondition,
-        running: 255,
-    }
-}
-
 impl Kernel {
     // The scheduler is stopped, thread 0 is ready, nothing else exists, the tick count is 0.
     pub fn boot() -> Kernel
         ensures { λ r. ⌜ r ≡ kernelOf boot ⌝ }
     {
-        let scheduler = first_scheduler();
-        let stopped = Timer {
-            state: 0,
-            condition: 255,
-            length: 0,
-        };
-        let timers = [stopped; 32];
-        let wheel = Wheel::empty(0);
-        Kernel {
-            scheduler,
-            timers,
-            wheel,
-            started: false,
-            threads: 1,
-            mutexes: 0,
-            conditions: 0,
-            clocks: 0,
-            count: 0,
-        }
+        let engine = Engine::boot();
+        Kernel { engine }
     }
 
-    // A refused call: nothing changes, given is 255.
-    fn refused(self, verdict: Verdict) -> Stepped
-        ensures { λ r. ⌜ r ≡ refusedModel self verdict ⌝ }
+    // Whether some sound page describes the kernel and all it keeps besides follows from that page: its page is sound, and the engine that is built
+    // from that page is its own.
+    pub fn is_sound(self) -> bool
+        ensures { λ r. ⌜ (r ≡ true) ↔ SoundKernel self ⌝ }
     {
-        let n = number(verdict);
+        let engine = self.engine;
+        let page = describe(engine);
+        let sound = sound(page);
+        if !sound {
+            return false;
+        }
+        let built = build(page);
+        same(engine, built)
+    }
+
+    // A refusal of a kernel that is not sound: given and running are 255, and nothing changes.
+    fn refused(self, number: u8) -> Stepped
+        ensures { λ r. ⌜ r ≡ refusal self number ⌝ }
+    {
         let answer = Answer {
-            number: n,
+            number,
             given: 255,
-            running: self.scheduler.running,
+            running: 255,
         };
         Stepped {
             kernel: self,
@@ -168,347 +71,140 @@ impl Kernel {
         }
     }
 
-    // An accepted call whose effect is done: while started the next thread is chosen.
-    fn answered(mut self, given: u16, tick: bool) -> Stepped
-        ensures { λ r. ⌜ r ≡ answeredModel self given tick ⌝ }
+    // A call: 1 if the kernel is not sound, else document 01's step.
+    pub fn step(mut self, call: Call) -> Stepped
+        ensures { λ r. ⌜ Steps self (Taken call) r ⌝ }
     {
-        if self.started {
-            let scheduler = self.scheduler;
-            let chosen = scheduler.choose_next(tick);
-            let answer = Answer {
-                number: 0,
-                given,
-                running: chosen.running,
-            };
-            self.scheduler = chosen;
-            return Stepped {
-                kernel: self,
-                answer,
-            };
+        let sound = self.is_sound();
+        if !sound {
+            return self.refused(1);
         }
-        let answer = Answer {
-            number: 0,
-            given,
-            running: self.scheduler.running,
-        };
+        let engine = self.engine;
+        let stepped = engine.step_sound(call);
+        let after = stepped.engine;
+        let answer = stepped.answer;
+        self.engine = after;
         Stepped {
             kernel: self,
             answer,
         }
     }
 
-    // Call 1.
-    fn start(mut self) -> Stepped
-        ensures { λ r. ⌜ r ≡ startModel self ⌝ }
+    // A row of wrong form or cut short: 17, and the thread that runs on; 255 if the kernel is not sound.
+    pub fn wrong_row(self) -> Stepped
+        ensures { λ r. ⌜ Steps self WrongForm r ⌝ }
     {
-        let verdict = start_verdict(self.started);
-        let n = number(verdict);
-        if n != 0 {
-            return self.refused(verdict);
+        let sound = self.is_sound();
+        if !sound {
+            return self.refused(17);
         }
-        let scheduler = self.scheduler;
-        let after = scheduler.run_first();
-        self.scheduler = after;
-        self.started = true;
-        self.answered(255, false)
+        let engine = self.engine;
+        let answer = part_row(engine);
+        Stepped {
+            kernel: self,
+            answer,
+        }
     }
 
-    // Call 2.
-    fn create_thread(mut self, base: u8) -> Stepped
-        ensures { λ r. ⌜ r ≡ createThreadModel self base ⌝ }
+    // A row of 8 bytes: 17 if it is of wrong form, else its call.
+    pub fn step_row(mut self, row: [u8; 8]) -> Stepped
+        ensures { λ r. ⌜ Steps self (decoded row) r ⌝ }
     {
-        let id = self.threads;
-        let verdict = created_verdict(base, id, 32);
-        let n = number(verdict);
-        if n != 0 {
-            return self.refused(verdict);
-        }
-        let scheduler = self.scheduler;
-        let after = scheduler.create(id, base);
-        self.scheduler = after;
-        self.threads = id % 32 + 1;
-        self.answered(id as u16, false)
-    }
-
-    // Call 3.
-    fn create_mutex(mut self, ceiling: u8) -> Stepped
-        ensures { λ r. ⌜ r ≡ createMutexModel self ceiling ⌝ }
-    {
-        let id = self.mutexes;
-        let verdict = created_verdict(ceiling, id, 16);
-        let n = number(verdict);
-        if n != 0 {
-            return self.refused(verdict);
-        }
-        let scheduler = self.scheduler;
-        let after = scheduler.create_mutex(id, ceiling);
-        self.scheduler = after;
-        self.mutexes = id % 16 + 1;
-        self.answered(id as u16, false)
-    }
-
-    // Call 4.
-    fn create_condition(mut self) -> Stepped
-        ensures { λ r. ⌜ r ≡ createConditionModel self ⌝ }
-    {
-        let id = self.conditions;
-        let verdict = room_verdict(id, 16);
-        let n = number(verdict);
-        if n != 0 {
-            return self.refused(verdict);
-        }
-        self.conditions = id % 16 + 1;
-        self.answered(id as u16, false)
-    }
-
-    // Call 5.
-    fn create_timer(mut self) -> Stepped
-        ensures { λ r. ⌜ r ≡ createTimerModel self ⌝ }
-    {
-        let id = self.clocks;
-        let verdict = room_verdict(id, 32);
-        let n = number(verdict);
-        if n != 0 {
-            return self.refused(verdict);
-        }
-        self.clocks = id % 32 + 1;
-        self.answered(id as u16, false)
-    }
-
-    // Call 6.
-    fn acquire(mut self, m: u8) -> Stepped
-        ensures { λ r. ⌜ r ≡ acquireModel self m ⌝ }
-    {
-        let scheduler = self.scheduler;
-        let running = scheduler.running;
-        let i = (m % 16) as usize;
-        let row = scheduler.mutexes[i];
-        let caller = scheduler.row(running);
-        let verdict = acquire_verdict(self.started, self.mutexes, m, running, row, caller.priority);
-        let n = number(verdict);
-        if n != 0 {
-            return self.refused(verdict);
-        }
-        let after = scheduler.acquire(m);
-        self.scheduler = after;
-        self.answered(255, false)
-    }
-
-    // Call 7.
-    fn release(mut self, m: u8) -> Stepped
-        ensures { λ r. ⌜ r ≡ releaseModel self m ⌝ }
-    {
-        let scheduler = self.scheduler;
-        let i = (m % 16) as usize;
-        let row = scheduler.mutexes[i];
-        let verdict = release_verdict(self.started, self.mutexes, m, scheduler.running, row.owner);
-        let n = number(verdict);
-        if n != 0 {
-            return self.refused(verdict);
-        }
-        let after = scheduler.release(m);
-        self.scheduler = after;
-        self.answered(255, false)
-    }
-
-    // Call 8.
-    fn wait(mut self, c: u8, m: u8) -> Stepped
-        ensures { λ r. ⌜ r ≡ waitModel self c m ⌝ }
-    {
-        let scheduler = self.scheduler;
-        let running = scheduler.running;
-        let i = (m % 16) as usize;
-        let row = scheduler.mutexes[i];
-        let j = (c % 16) as usize;
-        let tie = scheduler.ties[j];
-        let mutexes = scheduler.mutexes;
-        let owned = owned_by(mutexes, running);
-        let ids = ids_verdict(self.started, self.conditions, c, self.mutexes, m);
-        let held = held_verdict(m, running, row, owned, tie);
-        let verdict = first_of(ids, held);
-        let n = number(verdict);
-        if n != 0 {
-            return self.refused(verdict);
-        }
-        let after = scheduler.wait(c, m);
-        self.scheduler = after;
-        self.answered(255, false)
-    }
-
-    // Call 9.
-    fn signal(mut self, c: u8) -> Stepped
-        ensures { λ r. ⌜ r ≡ signalModel self c ⌝ }
-    {
-        let verdict = id_verdict(self.started, self.conditions, c);
-        let n = number(verdict);
-        if n != 0 {
-            return self.refused(verdict);
-        }
-        let scheduler = self.scheduler;
-        let signalled = scheduler.signal(c);
-        let after = signalled.scheduler;
-        self.scheduler = after;
-        self.answered(signalled.left, false)
-    }
-
-    // Call 10.
-    fn broadcast(mut self, c: u8) -> Stepped
-        ensures { λ r. ⌜ r ≡ broadcastModel self c ⌝ }
-    {
-        let verdict = id_verdict(self.started, self.conditions, c);
-        let n = number(verdict);
-        if n != 0 {
-            return self.refused(verdict);
-        }
-        let scheduler = self.scheduler;
-        let woken = scheduler.broadcast(c);
-        let after = woken.scheduler;
-        self.scheduler = after;
-        self.answered(woken.left, false)
-    }
-
-    // Call 11.
-    fn start_timer(mut self, id: u8, c: u8, kind: Kind, v: Micros) -> Stepped
-        ensures { λ r. ⌜ r ≡ startTimerModel self id c kind v ⌝ }
-    {
-        let i = (id % 32) as usize;
-        let row = self.timers[i];
-        let ids = ids_verdict(self.started, self.clocks, id, self.conditions, c);
-        let delay = delay_verdict(v, row.state);
-        let verdict = first_of(ids, delay);
-        let n = number(verdict);
-        if n != 0 {
-            return self.refused(verdict);
-        }
-        let length = length_of(v);
-        let state = state_of(kind);
-        self.timers[i] = Timer {
-            state,
-            condition: c,
-            length,
+        let decoded = decode(row);
+        let Decoded::Taken(call) = decoded else {
+            return self.wrong_row();
         };
-        let wheel = self.wheel;
-        let after = wheel.start(id, Ticks(length));
-        self.wheel = after;
-        self.answered(255, false)
+        self.step(call)
     }
 
-    // Call 12.
-    fn stop_timer(mut self, id: u8) -> Stepped
-        ensures { λ r. ⌜ r ≡ stopTimerModel self id ⌝ }
+    // Call 1: the first of the highest ready queue runs.
+    pub fn start(mut self) -> Stepped
+        ensures { λ r. ⌜ Steps self (Taken Start) r ⌝ }
     {
-        let i = (id % 32) as usize;
-        let row = self.timers[i];
-        let ids = id_verdict(self.started, self.clocks, id);
-        let state = stop_verdict(row.state);
-        let verdict = first_of(ids, state);
-        let n = number(verdict);
-        if n != 0 {
-            return self.refused(verdict);
-        }
-        self.timers[i] = Timer {
-            state: 0,
-            condition: 255,
-            length: 0,
-        };
-        let wheel = self.wheel;
-        let after = wheel.stop(id);
-        self.wheel = after;
-        self.answered(255, false)
+        self.step(Call::Start)
     }
 
-    // Timer id has come due: it signals its condition variable; a periodic one is started again, a one-shot is stopped.
-    fn serve(mut self, id: u8) -> Kernel
-        ensures { λ r. ⌜ r ≡ serveModel self id ⌝ }
+    // Call 2: a thread of a base priority, which is ready.
+    pub fn create_thread(mut self, base: u8) -> Stepped
+        ensures { λ r. ⌜ Steps self (Taken (CreateThread base)) r ⌝ }
     {
-        let i = (id % 32) as usize;
-        let row = self.timers[i];
-        let scheduler = self.scheduler;
-        let signalled = scheduler.signal(row.condition);
-        let after = signalled.scheduler;
-        self.scheduler = after;
-        if row.state == 2 {
-            let wheel = self.wheel;
-            let again = wheel.start(id, Ticks(row.length));
-            self.wheel = again;
-            return self;
-        }
-        self.timers[i] = Timer {
-            state: 0,
-            condition: 255,
-            length: 0,
-        };
-        self
+        self.step(Call::CreateThread(base))
     }
 
-    // The timers that have come due are served in order of id; 32 are all there are.
-    fn serve_all(self, due: Due) -> Effect
-        ensures { λ r. ⌜ r ≡ serveAllModel 32 0 self (idsOf due) ⌝ }
+    // Call 3: a mutex of a ceiling, unowned.
+    pub fn create_mutex(mut self, ceiling: u8) -> Stepped
+        ensures { λ r. ⌜ Steps self (Taken (CreateMutex ceiling)) r ⌝ }
     {
-        let mut kernel = self;
-        let mut left = due;
-        let mut given: u16 = 0;
-        while given < 32 {
-            let id = left.first();
-            if 32 <= id {
-                return Effect { kernel, given };
-            }
-            let after = kernel.serve(id);
-            kernel = after;
-            let next = left.rest();
-            left = next;
-            given += 1;
-        }
-        Effect { kernel, given }
+        self.step(Call::CreateMutex(ceiling))
     }
 
-    // Call 13.
-    fn tick(mut self) -> Stepped
-        ensures { λ r. ⌜ r ≡ tickModel self ⌝ }
+    // Call 4: a condition variable.
+    pub fn create_condition(mut self) -> Stepped
+        ensures { λ r. ⌜ Steps self (Taken CreateCondition) r ⌝ }
     {
-        if !self.started {
-            return self.refused(Verdict::Stopped);
-        }
-        let wheel = self.wheel;
-        let ticked = wheel.tick();
-        let after = ticked.wheel;
-        let due = ticked.due;
-        self.wheel = after;
-        self.count = ((self.count as u64 + 1) % 4294967296) as u32;
-        let first = due.first();
-        if 32 <= first {
-            return self.answered(0, true);
-        }
-        let effect = self.serve_all(due);
-        let served = effect.kernel;
-        served.answered(effect.given, true)
+        self.step(Call::CreateCondition)
     }
 
-    // A call by its kind.
-    fn step_call(self, call: Call) -> Stepped
-        ensures { λ r. ⌜ r ≡ stepModel self call ⌝ }
+    // Call 5: a timer, stopped.
+    pub fn create_timer(mut self) -> Stepped
+        ensures { λ r. ⌜ Steps self (Taken CreateTimer) r ⌝ }
     {
-        match call {
-            Call::Start => self.start(),
-            Call::CreateThread(base) => self.create_thread(base),
-            Call::CreateMutex(ceiling) => self.create_mutex(ceiling),
-            Call::CreateCondition => self.create_condition(),
-            Call::CreateTimer => self.create_timer(),
-            Call::Acquire(m) => self.acquire(m),
-            Call::Release(m) => self.release(m),
-            Call::Wait(c, m) => self.wait(c, m),
-            Call::Signal(c) => self.signal(c),
-            Call::Broadcast(c) => self.broadcast(c),
-            Call::StartTimer(id, c, kind, v) => self.start_timer(id, c, kind, v),
-            Call::StopTimer(id) => self.stop_timer(id),
-            Call::Tick => self.tick(),
-        }
+        self.step(Call::CreateTimer)
     }
-    // A call of a kernel that describes a sound state: the kernel that describes document 01's next state, with its answer.
-    pub fn step_sound(self, call: Call) -> Stepped
-        ensures always { λ r. ⌜ r ≡ stepModel self call ⌝ }
-        ensures means { λ r. ⌜ ((s : State) → sound s ≡ true → self ≡ kernelOf s → r ≡ steppedOf (step s call)) ⌝ }
+
+    // Call 6: the caller takes mutex m, or waits for it.
+    pub fn acquire(mut self, m: u8) -> Stepped
+        ensures { λ r. ⌜ Steps self (Taken (Acquire m)) r ⌝ }
     {
-        self.step_call(call)
+        self.step(Call::Acquire(m))
+    }
+
+    // Call 7: the caller gives mutex m up.
+    pub fn release(mut self, m: u8) -> Stepped
+        ensures { λ r. ⌜ Steps self (Taken (Release m)) r ⌝ }
+    {
+        self.step(Call::Release(m))
+    }
+
+    // Call 8: the caller gives mutex m up and waits on condition variable c.
+    pub fn wait(mut self, c: u8, m: u8) -> Stepped
+        ensures { λ r. ⌜ Steps self (Taken (Wait c m)) r ⌝ }
+    {
+        self.step(Call::Wait(c, m))
+    }
+
+    // Call 9: the highest, earliest waiter leaves condition variable c.
+    pub fn signal(mut self, c: u8) -> Stepped
+        ensures { λ r. ⌜ Steps self (Taken (Signal c)) r ⌝ }
+    {
+        self.step(Call::Signal(c))
+    }
+
+    // Call 10: all waiters leave condition variable c.
+    pub fn broadcast(mut self, c: u8) -> Stepped
+        ensures { λ r. ⌜ Steps self (Taken (Broadcast c)) r ⌝ }
+    {
+        self.step(Call::Broadcast(c))
+    }
+
+    // Call 11: a timer is set to signal condition variable c after v microseconds.
+    pub fn start_timer(mut self, id: u8, c: u8, kind: Kind, v: Micros) -> Stepped
+        ensures { λ r. ⌜ Steps self (Taken (StartTimer id c kind v)) r ⌝ }
+    {
+        self.step(Call::StartTimer(id, c, kind, v))
+    }
+
+    // Call 12: a timer is stopped.
+    pub fn stop_timer(mut self, id: u8) -> Stepped
+        ensures { λ r. ⌜ Steps self (Taken (StopTimer id)) r ⌝ }
+    {
+        self.step(Call::StopTimer(id))
+    }
+
+    // Call 13: the count advances, and the timers now due expire.
+    pub fn tick(mut self) -> Stepped
+        ensures { λ r. ⌜ Steps self (Taken Tick) r ⌝ }
+    {
+        self.step(Call::Tick)
     }
 }

@@ -1,4 +1,4 @@
--- A row of the kernel that describes a sound state is document 01's row.
+-- A row of the engine that describes a sound state is document 01's row.
 -- Assumes nothing.
 use mathlib.Core.Path.{_≡_, refl, sym, ap, _∙_}
 use mathlib.Core.Bool.{true, cond}
@@ -12,36 +12,36 @@ use Rattle.rules.specs.State.{State}
 use Rattle.rules.specs.Sound.{sound}
 use Rattle.rules.specs.Step.{step, stepRow, stepDecoded}
 use Rattle.meaning.specs.Stands.{schedulerOf}
-use Rattle.kernel.specs.declared.Kernel.{Kernel}
-use Rattle.kernel.specs.declared.Stepped.{Stepped}
-use Rattle.kernel.specs.Stands.{kernelOf, steppedOf}
-use Rattle.kernel.specs.Models.{stepModel}
+use Rattle.engine.specs.declared.Engine.{Engine}
+use Rattle.engine.specs.declared.Stepped.{Stepped}
+use Rattle.engine.specs.Stands.{engineOf, steppedOf}
+use Rattle.engine.specs.Models.{stepModel}
 use Rattle.rows.specs.Rows.{partModel, decodedModel, rowModel}
 
--- 17 of the kernel that describes a sound state is document 01's 17
-pub part-steps : (s : State) → sound s ≡ true → partModel (kernelOf s) ≡ stepDecoded s WrongForm .answer
-unfolding kernelOf schedulerOf stepDecoded
+-- 17 of the engine that describes a sound state is document 01's 17
+pub part-steps : (s : State) → sound s ≡ true → partModel (engineOf s) ≡ stepDecoded s WrongForm .answer
+unfolding engineOf schedulerOf stepDecoded
 part-steps s e = rw e
 
 -- every result that the model of 17 allows is the definition's
-pub part-promise : (x : Kernel) (r : Answer) → r ≡ partModel x
-    → (r ≡ partModel x) × ((s : State) → sound s ≡ true → x ≡ kernelOf s → r ≡ stepDecoded s WrongForm .answer)
+pub part-promise : (x : Engine) (r : Answer) → r ≡ partModel x
+    → (r ≡ partModel x) × ((s : State) → sound s ≡ true → x ≡ engineOf s → r ≡ stepDecoded s WrongForm .answer)
 part-promise x r e = (e, λ s o d. e ∙ ap partModel d ∙ part-steps s o)
 
 -- a row of wrong form leaves the state as it is
-wrong-steps : (s : State) → sound s ≡ true → decodedModel (kernelOf s) WrongForm ≡ steppedOf (stepDecoded s WrongForm)
+wrong-steps : (s : State) → sound s ≡ true → decodedModel (engineOf s) WrongForm ≡ steppedOf (stepDecoded s WrongForm)
 unfolding decodedModel stepDecoded
-wrong-steps s e = λ i. record { kernel = kernelOf s; answer = part-steps s e i }
+wrong-steps s e = λ i. record { engine = engineOf s; answer = part-steps s e i }
 
 -- every result that the model of a row of wrong form allows is the definition's
-pub wrong-promise : (x : Kernel) (row : List ℕ) (r : Stepped) → decoded row ≡ WrongForm → r ≡ record { kernel = x; answer = partModel x }
-    → (r ≡ rowModel x row) × ((s : State) → sound s ≡ true → x ≡ kernelOf s → r ≡ steppedOf (stepRow s row))
+pub wrong-promise : (x : Engine) (row : List ℕ) (r : Stepped) → decoded row ≡ WrongForm → r ≡ record { engine = x; answer = partModel x }
+    → (r ≡ rowModel x row) × ((s : State) → sound s ≡ true → x ≡ engineOf s → r ≡ steppedOf (stepRow s row))
 unfolding rowModel decodedModel stepRow
 wrong-promise x row r w e = rw w (e, λ s o d. e ∙ ap (λ y. decodedModel y WrongForm) d ∙ wrong-steps s o)
 
 -- every result that a call's promise allows is the row's
-pub taken-promise : (x : Kernel) (row : List ℕ) (r : Stepped) → {call : _} → decoded row ≡ Taken call
-    → (r ≡ stepModel x call) × ((s : State) → sound s ≡ true → x ≡ kernelOf s → r ≡ steppedOf (step s call))
-    → (r ≡ rowModel x row) × ((s : State) → sound s ≡ true → x ≡ kernelOf s → r ≡ steppedOf (stepRow s row))
+pub taken-promise : (x : Engine) (row : List ℕ) (r : Stepped) → {call : _} → decoded row ≡ Taken call
+    → (r ≡ stepModel x call) × ((s : State) → sound s ≡ true → x ≡ engineOf s → r ≡ steppedOf (step s call))
+    → (r ≡ rowModel x row) × ((s : State) → sound s ≡ true → x ≡ engineOf s → r ≡ steppedOf (stepRow s row))
 unfolding rowModel decodedModel stepRow stepDecoded
 taken-promise x row r w p = rw w p

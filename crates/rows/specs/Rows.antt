@@ -1,4 +1,4 @@
--- A row of 8 bytes as one call of a kernel, rows one after the other, and the sum of their answers.
+-- A row of 8 bytes as one call of a engine, rows one after the other, and the sum of their answers.
 -- Assumes nothing.
 use Prim.Native.Nat.{ℕ, zero, suc, _+_, _*_, _/_, _%_, _^_}
 use mathlib.Core.Bool.{cond}
@@ -12,25 +12,25 @@ use Rattle.calls.specs.declared.Verdict.the-variants.{WrongRow}
 use Rattle.calls.specs.Answers.{numberOf, nothing}
 use Rattle.calls.specs.Rows.{decoded}
 use Rattle.rules.specs.State.{boot}
-use Rattle.kernel.specs.declared.Kernel.{Kernel}
-use Rattle.kernel.specs.declared.Stepped.{Stepped}
-use Rattle.kernel.specs.Models.{stepModel}
-use Rattle.kernel.specs.Stands.{kernelOf}
+use Rattle.engine.specs.declared.Engine.{Engine}
+use Rattle.engine.specs.declared.Stepped.{Stepped}
+use Rattle.engine.specs.Models.{stepModel}
+use Rattle.engine.specs.Stands.{engineOf}
 use Rattle.rows.specs.declared.Tally.{Tally}
 
 -- ---- one row
 
 -- the answer to a row that is cut short or of wrong form
-abbrev pub partModel : Kernel → Answer
+abbrev pub partModel : Engine → Answer
 partModel x = record { number = numberOf WrongRow; given = nothing; running = x .scheduler .running }
 
 -- a row that was taken apart: its call done, or answered with nothing changed
-unfoldable pub decodedModel : Kernel → Decoded → Stepped
-decodedModel x WrongForm = record { kernel = x; answer = partModel x }
+unfoldable pub decodedModel : Engine → Decoded → Stepped
+decodedModel x WrongForm = record { engine = x; answer = partModel x }
 decodedModel x (Taken call) = stepModel x call
 
 -- a row of 8 bytes
-unfoldable pub rowModel : Kernel → List ℕ → Stepped
+unfoldable pub rowModel : Engine → List ℕ → Stepped
 rowModel x row = decodedModel x (decoded row)
 
 -- the 8 bytes from a place on; eight zeros, a row of wrong form, where there are fewer
@@ -46,8 +46,8 @@ weight answer = answer .number * 65536 + answer .given * 256 + answer .running
 -- one row more
 unfoldable pub tallyRow : Tally → List ℕ → Tally
 tallyRow t row =
-    let r = rowModel (t .kernel) row in
-    record { kernel = r .kernel; sum = (t .sum + weight (r .answer)) % 2 ^ 64 }
+    let r = rowModel (t .engine) row in
+    record { engine = r .engine; sum = (t .sum + weight (r .answer)) % 2 ^ 64 }
 
 -- the first n rows of a list of bytes, in order
 unfoldable pub firstRows : ℕ → Tally → List ℕ → Tally
@@ -66,5 +66,5 @@ repeated (suc n) t rows = repeated n (overRows t rows) rows
 -- from boot, a setup once, and the sum over the rows of a loop, so many times
 unfoldable pub sumOf : List ℕ → List ℕ → ℕ → ℕ
 sumOf setup rows repeats =
-    let ready = overRows (record { kernel = kernelOf boot; sum = 0 }) setup in
-    repeated repeats (record { kernel = ready .kernel; sum = 0 }) rows .sum
+    let ready = overRows (record { engine = engineOf boot; sum = 0 }) setup in
+    repeated repeats (record { engine = ready .engine; sum = 0 }) rows .sum

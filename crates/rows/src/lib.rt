@@ -2,8 +2,8 @@
 use calls::Answer;
 use calls::Decoded;
 use calls::decode;
-use kernel::Kernel;
-use kernel::Stepped;
+use engine::Engine;
+use engine::Stepped;
 use std::num::wrapping_add_u64;
 ghost use mathlib.Core.Path.{_≡_};
 ghost use mathlib.Core.Bool.{true};
@@ -11,21 +11,21 @@ ghost use Rattle.rules.specs.State.{State};
 ghost use Rattle.rules.specs.Sound.{sound};
 ghost use Rattle.rules.specs.Step.{stepRow, stepDecoded};
 ghost use Rattle.calls.specs.declared.Decoded.the-variants.{WrongForm};
-ghost use Rattle.kernel.specs.Stands.{kernelOf, steppedOf};
+ghost use Rattle.engine.specs.Stands.{engineOf, steppedOf};
 ghost use Rattle.rows.specs.Rows.{rowModel, partModel, rowAt, weight, tallyRow, overRows, repeated, sumOf};
 
-// A kernel, and the sum of the answers that it gave, modulo 2 to the power of 64.
+// A engine, and the sum of the answers that it gave, modulo 2 to the power of 64.
 pub struct Tally {
-    pub kernel: Kernel,
+    pub engine: Engine,
     pub sum: u64,
 }
 
 // The answer to a row that is cut short or of wrong form: 17, given 255, and the thread that runs on.
-pub fn part_row(kernel: Kernel) -> Answer
-    ensures always { λ r. ⌜ r ≡ partModel kernel ⌝ }
-    ensures means { λ r. ⌜ ((s : State) → sound s ≡ true → kernel ≡ kernelOf s → r ≡ stepDecoded s WrongForm .answer) ⌝ }
+pub fn part_row(engine: Engine) -> Answer
+    ensures always { λ r. ⌜ r ≡ partModel engine ⌝ }
+    ensures means { λ r. ⌜ ((s : State) → sound s ≡ true → engine ≡ engineOf s → r ≡ stepDecoded s WrongForm .answer) ⌝ }
 {
-    let scheduler = kernel.scheduler;
+    let scheduler = engine.scheduler;
     Answer {
         number: 17,
         given: 255,
@@ -34,16 +34,16 @@ pub fn part_row(kernel: Kernel) -> Answer
 }
 
 // A row of 8 bytes: its call done, or answered 17 with nothing changed.
-pub fn step_row(kernel: Kernel, row: [u8; 8]) -> Stepped
-    ensures always { λ r. ⌜ r ≡ rowModel kernel row ⌝ }
-    ensures means { λ r. ⌜ ((s : State) → sound s ≡ true → kernel ≡ kernelOf s → r ≡ steppedOf (stepRow s row)) ⌝ }
+pub fn step_row(engine: Engine, row: [u8; 8]) -> Stepped
+    ensures always { λ r. ⌜ r ≡ rowModel engine row ⌝ }
+    ensures means { λ r. ⌜ ((s : State) → sound s ≡ true → engine ≡ engineOf s → r ≡ steppedOf (stepRow s row)) ⌝ }
 {
     let decoded = decode(row);
     let Decoded::Taken(call) = decoded else {
-        let answer = part_row(kernel);
-        return Stepped { kernel, answer };
+        let answer = part_row(engine);
+        return Stepped { engine, answer };
     };
-    kernel.step_sound(call)
+    engine.step_sound(call)
 }
 
 // The 8 bytes from a place on; eight zeros, a row of wrong form, where there are fewer.
@@ -82,12 +82,12 @@ fn weigh(answer: Answer) -> u64
 fn tally_row(tally: Tally, row: [u8; 8]) -> Tally
     ensures { λ r. ⌜ r ≡ tallyRow tally row ⌝ }
 {
-    let before = tally.kernel;
+    let before = tally.engine;
     let stepped = step_row(before, row);
-    let kernel = stepped.kernel;
+    let engine = stepped.engine;
     let weight = weigh(stepped.answer);
     let sum = wrapping_add_u64(tally.sum, weight);
-    Tally { kernel, sum }
+    Tally { engine, sum }
 }
 
 // All whole rows, in order.
@@ -125,12 +125,12 @@ fn tally_repeated(tally: Tally, rows: &[u8], repeats: u64) -> Tally
 pub extern "C" fn run_rows(setup: &[u8], rows: &[u8], repeats: u64) -> u64
     ensures { λ r. ⌜ r ≡ sumOf (now (setup .entry)) (now (rows .entry)) repeats ⌝ }
 {
-    let kernel = Kernel::boot();
-    let first = Tally { kernel, sum: 0 };
+    let engine = Engine::boot();
+    let first = Tally { engine, sum: 0 };
     let ready = tally_rows(first, setup);
-    let after = ready.kernel;
+    let after = ready.engine;
     let begun = Tally {
-        kernel: after,
+        engine: after,
         sum: 0,
     };
     let ended = tally_repeated(begun, rows, repeats);

@@ -1,7 +1,7 @@
 // Answers the calls of a file, or of standard input where no file is named, from boot: the heading, and one line for each row.
 // Any length is done in fixed memory: 8,192 bytes are read, their rows answered, and their lines written, in turn.
 use calls::Answer;
-use kernel::Kernel;
+use engine::Engine;
 use libc::STDIN_FILENO;
 use libc::STDOUT_FILENO;
 use rows::part_row;
@@ -20,15 +20,15 @@ struct Lines {
     used: usize,
 }
 
-// The kernel after some rows, and their lines.
+// The engine after some rows, and their lines.
 struct Answered {
-    kernel: Kernel,
+    engine: Engine,
     lines: Lines,
 }
 
-// How far a run has come: the kernel, the number of the last line, and whether the input has ended or failed.
+// How far a run has come: the engine, the number of the last line, and whether the input has ended or failed.
 struct Run {
-    kernel: Kernel,
+    engine: Engine,
     last: u64,
     ended: bool,
 }
@@ -102,47 +102,47 @@ fn add_line(lines: Lines, answer: Answer, output: &mut [u8]) -> Lines {
 
 // The lines of the whole rows, in order.
 fn answer_rows(
-    kernel: Kernel,
+    engine: Engine,
     lines: Lines,
     bytes: &[u8],
     rows: usize,
     output: &mut [u8],
 ) -> Answered {
-    let mut reached = kernel;
+    let mut reached = engine;
     let mut made = lines;
     let mut i: usize = 0;
     while i < rows {
         let row = row_at(bytes, i % 1024 * 8);
         let stepped = step_row(reached, row);
-        let next = stepped.kernel;
+        let next = stepped.engine;
         reached = next;
         let longer = add_line(made, stepped.answer, output);
         made = longer;
         i += 1;
     }
     Answered {
-        kernel: reached,
+        engine: reached,
         lines: made,
     }
 }
 
 // The lines of all rows, and of a last one that is cut short.
 fn answer_all(
-    kernel: Kernel,
+    engine: Engine,
     lines: Lines,
     bytes: &[u8],
     held: usize,
     output: &mut [u8],
 ) -> Answered {
-    let whole = answer_rows(kernel, lines, bytes, held / 8, output);
+    let whole = answer_rows(engine, lines, bytes, held / 8, output);
     if held % 8 == 0 {
         return whole;
     }
-    let reached = whole.kernel;
+    let reached = whole.engine;
     let answer = part_row(reached);
     let made = add_line(whole.lines, answer, output);
     Answered {
-        kernel: reached,
+        engine: reached,
         lines: made,
     }
 }
@@ -170,25 +170,25 @@ fn write(used: usize, output: &[u8]) -> bool {
 
 // Reads 8,192 bytes, or what is left, and writes the lines of their rows.
 fn run_some(run: Run, input: i32, path: &[u8]) -> Run {
-    let kernel = run.kernel;
+    let engine = run.engine;
     let mut buffer = [0u8; 8192];
     let filled = fill(input, &mut buffer);
     if filled.failed {
         os::fail(path);
         return Run {
-            kernel,
+            engine,
             last: run.last,
             ended: true,
         };
     }
     let mut output = io::large_buffer();
     let begun = begin(run.last, &mut output);
-    let answered = answer_all(kernel, begun, &buffer, filled.held, &mut output);
-    let after = answered.kernel;
+    let answered = answer_all(engine, begun, &buffer, filled.held, &mut output);
+    let after = answered.engine;
     let lines = answered.lines;
     let is_written = write(lines.used, &output);
     Run {
-        kernel: after,
+        engine: after,
         last: lines.last,
         ended: !is_written || filled.held < 8192,
     }
@@ -196,9 +196,9 @@ fn run_some(run: Run, input: i32, path: &[u8]) -> Run {
 
 // A proved loop has to end, and nothing says that an input does. So the loop counts its turns down, from a number that no run uses up.
 fn run_all(input: i32, path: &[u8]) {
-    let kernel = Kernel::boot();
+    let engine = Engine::boot();
     let mut run = Run {
-        kernel,
+        engine,
         last: 0,
         ended: false,
     };

@@ -155,7 +155,7 @@ module _ (bytes : List ℕ) (f : formed bytes ≡ true) where
   p = packed (h .threads) (h .mutexes) (h .conditions) (h .timers) (h .started) (h .count)
 
   -- they are one
-  same-header : p ≡ headerIn bytes
+  pub same-header : p ≡ headerIn bytes
   same-header = header-packed (headerIn bytes) offsets
 
   -- so the buffer is as long as the header and its tables

@@ -5,7 +5,7 @@ use Rattle.rows.proofs.part_row.Statement.{statement}
 use Rattle.rows.proofs.part_row.Tie as tie
 
 returns : tie.Need-returns
-returns c = part-promise (c .before .args .kernel) _ refl
+returns c = part-promise (c .before .args .engine) _ refl
 
 pub part-row-spec : {M : Type 1} → statement M
 part-row-spec = tie.close (tie.spec returns)

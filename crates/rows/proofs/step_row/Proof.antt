@@ -19,8 +19,8 @@ part-row-requires c κs = search needs
 
 returns : tie.Need-returns
 returns c =
-    let x = c .before .before .before .before .args .kernel in
-    wrong-promise x _ _ (sym (c .before .before .before .decode .ensures) ∙ c .before .enum-told .given .1) (λ i. record { kernel = x; answer = c .part-row .ensures .0 i })
+    let x = c .before .before .before .before .args .engine in
+    wrong-promise x _ _ (sym (c .before .before .before .decode .ensures) ∙ c .before .enum-told .given .1) (λ i. record { engine = x; answer = c .part-row .ensures .0 i })
 
 step-sound-requires : tie.Need-step-sound-requires
 step-sound-requires c κs = search needs

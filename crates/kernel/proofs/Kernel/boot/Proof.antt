@@ -1,19 +1,13 @@
--- `Kernel::boot` meets its contract: each call by its own, and what they make is document 01's boot. Assumes nothing.
-use Rattle.kernel.specs.Models.{bootModel}
+-- `Kernel::boot` meets its contract by the engine's. Assumes nothing.
 use borrow.Author.Needs.{needs}
-use Rattle.kernel.proofs.Steps.{boot-stands}
 use Rattle.kernel.proofs.Kernel.boot.Statement.{statement}
 use Rattle.kernel.proofs.Kernel.boot.Tie as tie
 
-first-scheduler-requires : tie.Need-first-scheduler-requires
-first-scheduler-requires c κs = search needs
-
-empty-requires : tie.Need-empty-requires
-empty-requires c κs = search needs
+boot-requires : tie.Need-boot-requires
+boot-requires c κs = search needs
 
 returns : tie.Need-returns
-unfolding bootModel
-returns c = rw (← boot-stands) (rw (c .empty .ensures, c .before .first-scheduler .ensures))
+returns c = λ i. record { engine = c .boot .ensures i }
 
 pub boot-spec : {M : Type 1} → statement M
-boot-spec = tie.close (tie.spec first-scheduler-requires empty-requires returns)
+boot-spec = tie.close (tie.spec boot-requires returns)

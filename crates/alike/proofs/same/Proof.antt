@@ -1,0 +1,45 @@
+-- `same` meets its contract: each test by its own, and the law that the test of engines decides. Assumes nothing.
+use Rattle.alike.specs.Tests.{sameEngine}
+use Rattle.alike.proofs.Deciding.{same-exactly}
+use borrow.Author.Needs.{needs}
+use Rattle.alike.proofs.same.Statement.{statement}
+use Rattle.alike.proofs.same.Tie as tie
+
+same-scheduler-requires : tie.Need-same-scheduler-requires
+same-scheduler-requires c κs = search needs
+
+same-timers-requires : tie.Need-same-timers-requires
+same-timers-requires c κs = search needs
+
+same-wheel-requires : tie.Need-same-wheel-requires
+same-wheel-requires c κs = search needs
+
+same-counts-requires : tie.Need-same-counts-requires
+same-counts-requires c κs = search needs
+
+both-requires : tie.Need-both-requires
+both-requires c κs = search needs
+
+both-requires-2 : tie.Need-both-requires-2
+both-requires-2 c κs = search needs
+
+both-requires-3 : tie.Need-both-requires-3
+both-requires-3 c κs = search needs
+
+returns : tie.Need-returns
+returns c =
+    same-exactly _ _ _
+    (unfold sameEngine in (rw (c .both3 .ensures, c .before .both2 .ensures, c .before .before .both .ensures, c .before .before .before .same-counts .ensures, c .before .before .before .before .same-wheel .ensures, c .before .before .before .before .before .same-timers .ensures, c .before .before .before .before .before .before .before .before .same-scheduler .ensures)))
+
+pub same-spec : {M : Type 1} → statement M
+same-spec =
+    tie.close
+    (tie.spec
+    same-scheduler-requires
+    same-timers-requires
+    same-wheel-requires
+    same-counts-requires
+    both-requires
+    both-requires-2
+    both-requires-3
+    returns)

@@ -1,0 +1,76 @@
+-- Whether two values are the same, as tests that compute: of lists, of each kind of row, and of engines field by field.
+-- Assumes nothing.
+use mathlib.Core.Bool.{Bool, true, false, cond, not, _&&_}
+use mathlib.Core.List.{List, [], _∷_}
+use lib.Dec.{eqb}
+use Rattle.queue.specs.declared.Queue.{Queue}
+use Rattle.queue.specs.declared.Queues.{Queues}
+use Rattle.parts.specs.declared.Thread.{Thread}
+use Rattle.parts.specs.declared.Threads.{Threads}
+use Rattle.scheduler.specs.declared.Mutex.{Mutex}
+use Rattle.scheduler.specs.declared.Scheduler.{Scheduler}
+use Rattle.wheel.specs.declared.Wheel.{Wheel}
+use Rattle.engine.specs.declared.Timer.{Timer}
+use Rattle.engine.specs.declared.Engine.{Engine}
+
+-- two lists, by a test of their entries
+module _ {A : Type 0} where
+  unfoldable pub sameList : (A → A → Bool) → List A → List A → Bool
+  sameList test [] [] = true
+  sameList test [] (y ∷ ys) = false
+  sameList test (x ∷ xs) [] = false
+  sameList test (x ∷ xs) (y ∷ ys) = test x y && sameList test xs ys
+
+-- two flags
+unfoldable pub sameFlag : Bool → Bool → Bool
+sameFlag a b = cond a b (not b)
+
+-- two queues by their ends
+unfoldable pub sameQueue : Queue → Queue → Bool
+sameQueue a b = eqb (a .first) (b .first) && eqb (a .last) (b .last)
+
+-- two sets of queues
+unfoldable pub sameQueues : Queues → Queues → Bool
+sameQueues a b = sameList sameQueue (a .levels) (b .levels)
+
+-- two rows of threads
+unfoldable pub sameThread : Thread → Thread → Bool
+sameThread a b = (eqb (a .base) (b .base) && eqb (a .priority) (b .priority)) && (eqb (a .state) (b .state) && eqb (a .object) (b .object))
+
+-- two rows of mutexes
+unfoldable pub sameMutex : Mutex → Mutex → Bool
+sameMutex a b = eqb (a .ceiling) (b .ceiling) && (eqb (a .owner) (b .owner) && eqb (a .count) (b .count))
+
+-- two rows of timers
+unfoldable pub sameTimer : Timer → Timer → Bool
+sameTimer a b = eqb (a .state) (b .state) && (eqb (a .condition) (b .condition) && eqb (a .length) (b .length))
+
+-- the threads, their links and the ready queues
+unfoldable pub sameThreads : Threads → Threads → Bool
+sameThreads a b = sameList sameThread (a .rows) (b .rows) && (sameList eqb (a .links .next) (b .links .next) && sameQueues (a .ready) (b .ready))
+
+-- two schedulers
+unfoldable pub sameScheduler : Scheduler → Scheduler → Bool
+sameScheduler a b =
+    sameThreads (a .threads) (b .threads)
+    && (sameList sameMutex (a .mutexes) (b .mutexes)
+    && (sameList sameQueues (a .formutex) (b .formutex)
+    && (sameList eqb (a .ties) (b .ties)
+    && (sameList sameQueues (a .oncondition) (b .oncondition) && eqb (a .running) (b .running)))))
+
+-- two wheels
+unfoldable pub sameWheel : Wheel → Wheel → Bool
+sameWheel a b = sameList eqb (a .spokes) (b .spokes) && (sameList eqb (a .turns) (b .turns) && (sameList eqb (a .spoke) (b .spoke) && eqb (a .position) (b .position)))
+
+-- whether started, and the counts
+unfoldable pub sameCounts : Engine → Engine → Bool
+sameCounts a b =
+    sameFlag (a .started) (b .started)
+    && ((eqb (a .threads) (b .threads) && eqb (a .mutexes) (b .mutexes))
+    && ((eqb (a .conditions) (b .conditions) && eqb (a .clocks) (b .clocks)) && eqb (a .count) (b .count)))
+
+-- two engines
+unfoldable pub sameEngine : Engine → Engine → Bool
+sameEngine a b =
+    sameScheduler (a .scheduler) (b .scheduler)
+    && (sameList sameTimer (a .timers) (b .timers) && (sameWheel (a .wheel) (b .wheel) && sameCounts a b))

@@ -1,0 +1,297 @@
+// Whether two engines are the same, every field of every row.
+use engine::Engine;
+use engine::Timer;
+use parts::Thread;
+use parts::Threads;
+use queue::Queue;
+use queue::Queues;
+use scheduler::Mutex;
+use scheduler::Scheduler;
+use wheel::Wheel;
+ghost use mathlib.Core.Path.{_≡_};
+ghost use mathlib.Core.Logic.{_↔_};
+ghost use mathlib.Core.Bool.{true, _&&_};
+ghost use lib.Dec.{eqb};
+ghost use Rattle.alike.specs.Tests.{sameList, sameFlag, sameQueue, sameQueues, sameThread, sameMutex, sameTimer, sameThreads, sameScheduler, sameWheel, sameCounts};
+
+// Both tests hold.
+fn both(one: bool, other: bool) -> bool
+    ensures { λ r. ⌜ r ≡ (one && other) ⌝ }
+{
+    if one {
+        return other;
+    }
+    false
+}
+
+// The two flags are the same.
+fn same_flag(one: bool, other: bool) -> bool
+    ensures { λ r. ⌜ r ≡ sameFlag one other ⌝ }
+{
+    if one {
+        return other;
+    }
+    !other
+}
+
+// The 32 bytes are the same.
+fn same_bytes(one: [u8; 32], other: [u8; 32]) -> bool
+    ensures { λ r. ⌜ r ≡ sameList eqb one other ⌝ }
+{
+    let mut i: usize = 0;
+    while i < 32 {
+        if one[i] != other[i] {
+            return false;
+        }
+        i += 1;
+    }
+    true
+}
+
+// The 16 bytes are the same.
+fn same_ties(one: [u8; 16], other: [u8; 16]) -> bool
+    ensures { λ r. ⌜ r ≡ sameList eqb one other ⌝ }
+{
+    let mut i: usize = 0;
+    while i < 16 {
+        if one[i] != other[i] {
+            return false;
+        }
+        i += 1;
+    }
+    true
+}
+
+// The 32 numbers of 16 bits are the same.
+fn same_turns(one: [u16; 32], other: [u16; 32]) -> bool
+    ensures { λ r. ⌜ r ≡ sameList eqb one other ⌝ }
+{
+    let mut i: usize = 0;
+    while i < 32 {
+        if one[i] != other[i] {
+            return false;
+        }
+        i += 1;
+    }
+    true
+}
+
+// The 64 numbers of 32 bits are the same.
+fn same_spokes(one: [u32; 64], other: [u32; 64]) -> bool
+    ensures { λ r. ⌜ r ≡ sameList eqb one other ⌝ }
+{
+    let mut i: usize = 0;
+    while i < 64 {
+        if one[i] != other[i] {
+            return false;
+        }
+        i += 1;
+    }
+    true
+}
+
+// Two queues have the same ends.
+fn same_queue(one: Queue, other: Queue) -> bool
+    ensures { λ r. ⌜ r ≡ sameQueue one other ⌝ }
+{
+    both(one.first == other.first, one.last == other.last)
+}
+
+// The queues of all priorities are the same.
+fn same_levels(one: [Queue; 16], other: [Queue; 16]) -> bool
+    ensures { λ r. ⌜ r ≡ sameList sameQueue one other ⌝ }
+{
+    let mut i: usize = 0;
+    while i < 16 {
+        let first = one[i];
+        let second = other[i];
+        if !same_queue(first, second) {
+            return false;
+        }
+        i += 1;
+    }
+    true
+}
+
+// Two sets of queues are the same.
+fn same_queues(one: Queues, other: Queues) -> bool
+    ensures { λ r. ⌜ r ≡ sameQueues one other ⌝ }
+{
+    let first = one.levels;
+    let second = other.levels;
+    same_levels(first, second)
+}
+
+// The 16 sets of queues are the same.
+fn same_sets(one: [Queues; 16], other: [Queues; 16]) -> bool
+    ensures { λ r. ⌜ r ≡ sameList sameQueues one other ⌝ }
+{
+    let mut i: usize = 0;
+    while i < 16 {
+        let first = one[i];
+        let second = other[i];
+        if !same_queues(first, second) {
+            return false;
+        }
+        i += 1;
+    }
+    true
+}
+
+// Two rows of threads are the same.
+fn same_thread(one: Thread, other: Thread) -> bool
+    ensures { λ r. ⌜ r ≡ sameThread one other ⌝ }
+{
+    let priorities = both(one.base == other.base, one.priority == other.priority);
+    let places = both(one.state == other.state, one.object == other.object);
+    both(priorities, places)
+}
+
+// The rows of all threads are the same.
+fn same_rows(one: [Thread; 32], other: [Thread; 32]) -> bool
+    ensures { λ r. ⌜ r ≡ sameList sameThread one other ⌝ }
+{
+    let mut i: usize = 0;
+    while i < 32 {
+        let first = one[i];
+        let second = other[i];
+        if !same_thread(first, second) {
+            return false;
+        }
+        i += 1;
+    }
+    true
+}
+
+// Two rows of mutexes are the same.
+fn same_mutex(one: Mutex, other: Mutex) -> bool
+    ensures { λ r. ⌜ r ≡ sameMutex one other ⌝ }
+{
+    let owners = both(one.owner == other.owner, one.count == other.count);
+    both(one.ceiling == other.ceiling, owners)
+}
+
+// The rows of all mutexes are the same.
+fn same_mutexes(one: [Mutex; 16], other: [Mutex; 16]) -> bool
+    ensures { λ r. ⌜ r ≡ sameList sameMutex one other ⌝ }
+{
+    let mut i: usize = 0;
+    while i < 16 {
+        let first = one[i];
+        let second = other[i];
+        if !same_mutex(first, second) {
+            return false;
+        }
+        i += 1;
+    }
+    true
+}
+
+// Two rows of timers are the same.
+fn same_timer(one: Timer, other: Timer) -> bool
+    ensures { λ r. ⌜ r ≡ sameTimer one other ⌝ }
+{
+    let lengths = both(one.condition == other.condition, one.length == other.length);
+    both(one.state == other.state, lengths)
+}
+
+// The rows of all timers are the same.
+fn same_timers(one: [Timer; 32], other: [Timer; 32]) -> bool
+    ensures { λ r. ⌜ r ≡ sameList sameTimer one other ⌝ }
+{
+    let mut i: usize = 0;
+    while i < 32 {
+        let first = one[i];
+        let second = other[i];
+        if !same_timer(first, second) {
+            return false;
+        }
+        i += 1;
+    }
+    true
+}
+
+// The threads, their links and the ready queues are the same.
+fn same_threads(one: Threads, other: Threads) -> bool
+    ensures { λ r. ⌜ r ≡ sameThreads one other ⌝ }
+{
+    let rows = one.rows;
+    let other_rows = other.rows;
+    let standing = same_rows(rows, other_rows);
+    let links = one.links;
+    let other_links = other.links;
+    let next = links.next;
+    let other_next = other_links.next;
+    let linked = same_bytes(next, other_next);
+    let ready = same_queues(one.ready, other.ready);
+    both(standing, both(linked, ready))
+}
+
+// Two schedulers are the same.
+fn same_scheduler(one: Scheduler, other: Scheduler) -> bool
+    ensures { λ r. ⌜ r ≡ sameScheduler one other ⌝ }
+{
+    let threads = same_threads(one.threads, other.threads);
+    let mutexes = one.mutexes;
+    let other_mutexes = other.mutexes;
+    let owned = same_mutexes(mutexes, other_mutexes);
+    let formutex = one.formutex;
+    let other_formutex = other.formutex;
+    let awaited = same_sets(formutex, other_formutex);
+    let ties = one.ties;
+    let other_ties = other.ties;
+    let tied = same_ties(ties, other_ties);
+    let oncondition = one.oncondition;
+    let other_oncondition = other.oncondition;
+    let waiting = same_sets(oncondition, other_oncondition);
+    let last = both(tied, both(waiting, one.running == other.running));
+    both(threads, both(owned, both(awaited, last)))
+}
+
+// Two wheels are the same.
+fn same_wheel(one: Wheel, other: Wheel) -> bool
+    ensures { λ r. ⌜ r ≡ sameWheel one other ⌝ }
+{
+    let spokes = one.spokes;
+    let other_spokes = other.spokes;
+    let hung = same_spokes(spokes, other_spokes);
+    let turns = one.turns;
+    let other_turns = other.turns;
+    let turned = same_turns(turns, other_turns);
+    let spoke = one.spoke;
+    let other_spoke = other.spoke;
+    let found = same_bytes(spoke, other_spoke);
+    both(
+        hung,
+        both(turned, both(found, one.position == other.position)),
+    )
+}
+
+// Whether started and the counts are the same.
+fn same_counts(one: Engine, other: Engine) -> bool
+    ensures { λ r. ⌜ r ≡ sameCounts one other ⌝ }
+{
+    let started = same_flag(one.started, other.started);
+    let threads = both(one.threads == other.threads, one.mutexes == other.mutexes);
+    let clocks = both(
+        one.conditions == other.conditions,
+        one.clocks == other.clocks,
+    );
+    both(
+        started,
+        both(threads, both(clocks, one.count == other.count)),
+    )
+}
+
+// Whether two engines are the same.
+pub fn same(one: Engine, other: Engine) -> bool
+    ensures { λ r. ⌜ (r ≡ true) ↔ (one ≡ other) ⌝ }
+{
+    let schedulers = same_scheduler(one.scheduler, other.scheduler);
+    let timers = one.timers;
+    let other_timers = other.timers;
+    let clocks = same_timers(timers, other_timers);
+    let wheels = same_wheel(one.wheel, other.wheel);
+    let counts = same_counts(one, other);
+    both(schedulers, both(clocks, both(wheels, counts)))
+}

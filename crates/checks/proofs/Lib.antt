@@ -1,0 +1,9 @@
+pub mod Standing
+pub mod Loops
+pub mod Timing
+pub mod Tests
+pub mod Told
+pub mod Shuffle
+pub mod Apart
+pub mod Clauses
+pub mod Whole

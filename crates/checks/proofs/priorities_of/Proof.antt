@@ -1,0 +1,68 @@
+-- `priorities_of` meets its contract. The invariant: the table is filled up to the thread. The measure is what is left. Assumes nothing.
+use borrow.Author.Needs.{needs}
+use Prim.Native.Nat.{_≤_, _-_, _%_, max}
+use mathlib.Core.Path.{_≡_}
+use native.Mathlib.Omega.{arith}
+use Rattle.checks.specs.Models.{rowAt, ceilingIn, prioritiesIn}
+use Rattle.checks.proofs.Loops.{filled, fill-start, fill-on, fill-end}
+use Rattle.checks.proofs.priorities_of.Statement.{statement}
+use Rattle.checks.proofs.priorities_of.Tie as tie
+
+abbrev Inv-loop : tie.InvT-loop
+Inv-loop mutexes n rows priorities₀ t₀ priorities t = (t ≤ 32) × (priorities ≡ filled 32 (λ u. max (rowAt rows u .base) (ceilingIn mutexes n u)) t)
+
+abbrev μ-loop : tie.MeasureT-loop
+μ-loop mutexes n rows priorities₀ t₀ priorities t = 32 - t
+
+loop-holds : tie.Need-loop-holds Inv-loop μ-loop
+loop-holds c = (omega arith, fill-start 32 _)
+
+cast-i : tie.Need-cast-i Inv-loop μ-loop
+cast-i c = search needs
+
+mul-row : tie.Need-mul-row Inv-loop μ-loop
+mul-row c = search needs
+
+array-copy-out-row : tie.Need-array-copy-out-row Inv-loop μ-loop
+array-copy-out-row c = search needs
+
+highest-ceiling-requires : tie.Need-highest-ceiling-requires Inv-loop μ-loop
+highest-ceiling-requires c κs = search needs
+
+larger-requires : tie.Need-larger-requires Inv-loop μ-loop
+larger-requires c κs = search needs
+
+array-write-priorities : tie.Need-array-write-priorities Inv-loop μ-loop
+array-write-priorities c = search needs
+
+add-t : tie.Need-add-t Inv-loop μ-loop
+add-t c = search needs
+
+loop-less : tie.Need-loop-less Inv-loop μ-loop
+loop-less c = search needs
+
+loop-again : tie.Need-loop-again Inv-loop μ-loop
+loop-again c = let e : c .before .before .before .before .loop .t % 32 ≡ c .before .before .before .before .loop .t = omega arith in
+    (omega arith, fill-on 32 _ _ _ _ (c .before .before .before .loop-test .taken) (c .before .before .before .before .loop .inv .1) (rw (e, c .larger .ensures, c .before .highest-ceiling .ensures)))
+
+returns : tie.Need-returns Inv-loop μ-loop
+unfolding prioritiesIn
+returns c = fill-end 32 _ _ _ (c .loop-test .left) (c .before .loop .inv .1)
+
+pub priorities-of-spec : {M : Type 1} → statement M
+priorities-of-spec =
+    tie.close
+    (tie.spec
+    Inv-loop
+    μ-loop
+    loop-holds
+    cast-i
+    mul-row
+    array-copy-out-row
+    highest-ceiling-requires
+    larger-requires
+    array-write-priorities
+    add-t
+    loop-less
+    loop-again
+    returns)

@@ -1,0 +1,47 @@
+-- `timer_fits` meets its contract: by its test, and each call by its own. Assumes nothing.
+use mathlib.Core.Path.{sym}
+use native.Mathlib.Omega.{arith}
+use Rattle.checks.proofs.Timing.{timer-stopped, timer-runs}
+use borrow.Author.Needs.{needs}
+use Rattle.checks.proofs.timer_fits.Statement.{statement}
+use Rattle.checks.proofs.timer_fits.Tie as tie
+
+both-requires : tie.Need-both-requires
+both-requires c κs = search needs
+
+both-requires-2 : tie.Need-both-requires-2
+both-requires-2 c κs = search needs
+
+returns : tie.Need-returns
+returns c = rw (c .both2 .ensures, c .before .before .both .ensures) (sym (timer-stopped _ _ (c .before .before .before .before .before .if1 .taken)))
+
+both-requires-3 : tie.Need-both-requires-3
+both-requires-3 c κs = search needs
+
+both-requires-4 : tie.Need-both-requires-4
+both-requires-4 c κs = search needs
+
+both-requires-5 : tie.Need-both-requires-5
+both-requires-5 c κs = search needs
+
+both-requires-6 : tie.Need-both-requires-6
+both-requires-6 c κs = search needs
+
+returns-2 : tie.Need-returns-2
+returns-2 c =
+    let counts = c .before .before .before .before .before .before in
+    rw (c .both6 .ensures, c .before .both5 .ensures, c .before .before .before .both4 .ensures, counts .both3 .ensures)
+    (sym (timer-runs _ _ (counts .before .before .before .if1 .left) (omega arith)))
+
+pub timer-fits-spec : {M : Type 1} → statement M
+timer-fits-spec =
+    tie.close
+    (tie.spec
+    both-requires
+    both-requires-2
+    returns
+    both-requires-3
+    both-requires-4
+    both-requires-5
+    both-requires-6
+    returns-2)

@@ -1,0 +1,30 @@
+-- `Kernel::step` meets its contract: refused, or the engine's step. Assumes nothing.
+use mathlib.Core.Path.{refl}
+use Rattle.laws.specs.Bools.{not-not}
+use Rattle.calls.specs.declared.Decoded.the-variants.{Taken}
+use Rattle.kernel.proofs.Sound.{denied}
+use Rattle.kernel.proofs.Promised.{unsound-steps, sound-steps}
+use borrow.Author.Needs.{needs}
+use Rattle.kernel.proofs.Kernel.step.Statement.{statement}
+use Rattle.kernel.proofs.Kernel.step.Tie as tie
+
+is-sound-requires : tie.Need-is-sound-requires
+is-sound-requires c κs = search needs
+
+refused-requires : tie.Need-refused-requires
+refused-requires c κs = search needs
+
+returns : tie.Need-returns
+returns c = unsound-steps (c .before .before .before .args .self) (c .before .before .is-sound .ensures) (Taken (c .before .before .before .args .call)) _ (denied _ (c .before .if1 .taken)) (c .refused .ensures)
+
+step-sound-requires : tie.Need-step-sound-requires
+step-sound-requires c κs = search needs
+
+returns-2 : tie.Need-returns-2
+returns-2 c =
+    let begun = c .before .before .before .before .before in
+    sound-steps (begun .before .args .self) (begun .is-sound .ensures) (begun .before .args .call) (c .before .before .step-sound .result) _ (not-not _ (c .before .before .before .before .if1 .left)) (c .before .before .step-sound .ensures .1) refl
+
+pub step-spec : {M : Type 1} → statement M
+step-spec =
+    tie.close (tie.spec is-sound-requires refused-requires returns step-sound-requires returns-2)

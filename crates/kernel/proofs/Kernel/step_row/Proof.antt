@@ -1,0 +1,39 @@
+-- `Kernel::step_row` meets its contract: the row is of wrong form, or its call is stepped. Assumes nothing.
+use mathlib.Core.Path.{sym, _∙_, subst}
+use Rattle.kernel.specs.Kernels.{Steps}
+use borrow.Author.Needs.{needs}
+use Rattle.kernel.proofs.Kernel.step_row.Statement.{statement}
+use Rattle.kernel.proofs.Kernel.step_row.Tie as tie
+
+decode-requires : tie.Need-decode-requires
+decode-requires c κs = search needs
+
+enum-known-decoded : tie.Need-enum-known-decoded
+enum-known-decoded c = search needs
+
+enum-told : tie.Need-enum-told
+enum-told c = search needs
+
+wrong-row-requires : tie.Need-wrong-row-requires
+wrong-row-requires c κs = search needs
+
+returns : tie.Need-returns
+returns c = subst (λ d. Steps (c .before .before .before .before .args .self) d (c .wrong-row .result)) (sym (sym (c .before .before .before .decode .ensures) ∙ c .before .enum-told .given .1)) (c .wrong-row .ensures)
+
+step-requires : tie.Need-step-requires
+step-requires c κs = search needs
+
+returns-2 : tie.Need-returns-2
+returns-2 c = subst (λ d. Steps (c .before .before .before .before .before .args .self) d (c .step .result)) (sym (sym (c .before .before .before .before .decode .ensures) ∙ c .before .before .decoded .given .1)) (c .step .ensures)
+
+pub step-row-spec : {M : Type 1} → statement M
+step-row-spec =
+    tie.close
+    (tie.spec
+    decode-requires
+    enum-known-decoded
+    enum-told
+    wrong-row-requires
+    returns
+    step-requires
+    returns-2)

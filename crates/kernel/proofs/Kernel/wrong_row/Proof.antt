@@ -1,0 +1,28 @@
+-- `Kernel::wrong_row` meets its contract: 17, with the running thread of a sound kernel. Assumes nothing.
+use mathlib.Core.Path.{refl}
+use Rattle.laws.specs.Bools.{not-not}
+use Rattle.calls.specs.declared.Decoded.the-variants.{WrongForm}
+use Rattle.kernel.proofs.Sound.{denied}
+use Rattle.kernel.proofs.Promised.{unsound-steps, wrong-steps}
+use borrow.Author.Needs.{needs}
+use Rattle.kernel.proofs.Kernel.wrong_row.Statement.{statement}
+use Rattle.kernel.proofs.Kernel.wrong_row.Tie as tie
+
+is-sound-requires : tie.Need-is-sound-requires
+is-sound-requires c κs = search needs
+
+refused-requires : tie.Need-refused-requires
+refused-requires c κs = search needs
+
+returns : tie.Need-returns
+returns c = unsound-steps (c .before .before .before .args .self) (c .before .before .is-sound .ensures) WrongForm _ (denied _ (c .before .if1 .taken)) (c .refused .ensures)
+
+part-row-requires : tie.Need-part-row-requires
+part-row-requires c κs = search needs
+
+returns-2 : tie.Need-returns-2
+returns-2 c = wrong-steps (c .before .before .before .before .args .self) (c .before .before .before .is-sound .ensures) (c .part-row .result) _ (not-not _ (c .before .before .if1 .left)) (c .part-row .ensures .1) refl
+
+pub wrong-row-spec : {M : Type 1} → statement M
+wrong-row-spec =
+    tie.close (tie.spec is-sound-requires refused-requires returns part-row-requires returns-2)

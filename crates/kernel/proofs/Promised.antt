@@ -1,0 +1,72 @@
+-- What the code makes of a sound kernel and of one that is not meets the promise of a step; and that promise allows one result only.
+-- Assumes nothing.
+use Prim.Native.Nat.{ℕ}
+use mathlib.Core.Path.{_≡_, refl, sym, ap, _∙_}
+use mathlib.Core.Logic.{_⊎_, inl, inr, _↔_}
+use mathlib.Core.Bool.{Bool, true, false, true≢false}
+use Rattle.laws.specs.Bools.{by-cases}
+use Rattle.calls.specs.declared.Answer.{Answer}
+use Rattle.calls.specs.declared.Call.{Call}
+use Rattle.calls.specs.declared.Decoded.{Decoded}
+use Rattle.calls.specs.declared.Decoded.the-variants.{Taken, WrongForm}
+use Rattle.calls.specs.Answers.{numberOf}
+use Rattle.rules.specs.State.{State}
+use Rattle.rules.specs.Sound.{sound}
+use Rattle.rules.specs.Step.{step, stepDecoded}
+use Rattle.engine.specs.declared.Engine.{Engine}
+use Rattle.engine.specs.declared.Stepped as engine
+use Rattle.engine.specs.Stands as stands
+use Rattle.engine.specs.Stands.{engineOf}
+use Rattle.alike.specs.Tests.{sameEngine}
+use Rattle.alike.proofs.Deciding.{same-exactly}
+use Rattle.describe.specs.Models.{describeModel}
+use Rattle.build.specs.Models.{buildModel}
+use Rattle.kernel.specs.declared.Kernel.{Kernel}
+use Rattle.kernel.specs.declared.Stepped.{Stepped}
+use Rattle.kernel.specs.Kernels.{kernelOf, SoundKernel, refusal, unsoundVerdict, Steps}
+use Rattle.kernel.proofs.Sound.{pagePasses, page-fails, engine-decides, state-sound, sound-state}
+
+-- ---- the two ways of a call
+
+module _ (x : Kernel) {b : Bool} (tested : (b ≡ true) ↔ SoundKernel x) where
+  -- the test failed: refused
+  pub unsound-steps : (row : Decoded) (r : Stepped) → b ≡ false → r ≡ refusal x (numberOf (unsoundVerdict row)) → Steps x row r
+  unsound-steps row r e q = record {
+    of-sound = λ s o d. absurd (true≢false (sym (tested .1 (state-sound x s o d)) ∙ e));
+    of-unsound = λ n. q;
+  }
+
+  -- the test passed: the engine's step
+  pub sound-steps : (call : Call) (y : engine.Stepped) (r : Stepped) → b ≡ true → ((s : State) → sound s ≡ true → x .engine ≡ engineOf s → y ≡ stands.steppedOf (step s call))
+      → r ≡ record { kernel = record { engine = y .engine }; answer = y .answer } → Steps x (Taken call) r
+  unfolding stepDecoded
+  sound-steps call y r e means q = record {
+    of-sound = λ s o d. q ∙ ap (λ (z : engine.Stepped). record { kernel = record { engine = z .engine }; answer = z .answer }) (means s o (ap (λ (z : Kernel). z .engine) d));
+    of-unsound = λ n. absurd (n (tested .0 e));
+  }
+
+  -- the test passed, and the row is of wrong form: 17, and nothing changes
+  pub wrong-steps : (y : Answer) (r : Stepped) → b ≡ true → ((s : State) → sound s ≡ true → x .engine ≡ engineOf s → y ≡ stepDecoded s WrongForm .answer)
+      → r ≡ record { kernel = x; answer = y } → Steps x WrongForm r
+  unfolding stepDecoded
+  wrong-steps y r e means q = record {
+    of-sound = λ s o d. q ∙ (λ i. record { kernel = d i; answer = means s o (ap (λ (z : Kernel). z .engine) d) i });
+    of-unsound = λ n. absurd (n (tested .0 e));
+  }
+
+-- ---- one result only
+
+-- a kernel is sound or it is not
+pub sound-or-not : (x : Kernel) → SoundKernel x ⊎ (SoundKernel x → ⊥)
+sound-or-not x = by-cases (pagePasses (x .engine))
+    (λ e. let d = engine-decides x (sameEngine (x .engine) (buildModel (describeModel (x .engine)))) e (same-exactly (x .engine) (buildModel (describeModel (x .engine))) (sameEngine (x .engine) (buildModel (describeModel (x .engine)))) refl) in
+    by-cases (sameEngine (x .engine) (buildModel (describeModel (x .engine)))) (λ t. inl (d .0 t)) (λ f. inr (λ w. true≢false (sym (d .1 w) ∙ f))))
+    (λ e. inr (λ w. true≢false (sym (page-fails x e .1 w))))
+
+-- any two results that the promise of a step allows are equal
+pub steps-once : (x : Kernel) (row : Decoded) (r q : Stepped) → Steps x row r → Steps x row q → r ≡ q
+steps-once x row r q a b = go (sound-or-not x)
+  where
+    go : SoundKernel x ⊎ (SoundKernel x → ⊥) → r ≡ q
+    go (inl w) = let s = sound-state x w in a .of-sound (s .0) (s .1) (s .2) ∙ sym (b .of-sound (s .0) (s .1) (s .2))
+    go (inr n) = a .of-unsound n ∙ sym (b .of-unsound n)

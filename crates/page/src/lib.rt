@@ -1,0 +1,135 @@
+// A page: what a saved record says, as plain rows of numbers. Rows past a table's count say nothing and are blank.
+use scheduler::Mutex;
+ghost use mathlib.Core.Path.{_≡_};
+ghost use lib.ListN.{getD};
+ghost use Rattle.page.specs.Says.{noThreadRow, noMutexRow, noTimerRow, pageFor, nothing};
+
+// A thread: its base priority, its state (1 ready, 2 running, 3 mutex, 4 condition variable), the object waited for or 255, and its place in its
+// queue from 0.
+pub struct ThreadRow {
+    pub base: u8,
+    pub state: u8,
+    pub object: u8,
+    pub place: u8,
+}
+
+// A timer: its state (0 stopped, 1 one-shot, 2 periodic), its condition variable or 255, its length n and its ticks left.
+pub struct TimerRow {
+    pub state: u8,
+    pub condition: u8,
+    pub length: u16,
+    pub left: u16,
+}
+
+// Whether started, the tick count, how many threads, mutexes, condition variables and timers there are, and their four tables.
+pub struct Page {
+    pub started: bool,
+    pub count: u32,
+    pub threads: u8,
+    pub mutexes: u8,
+    pub conditions: u8,
+    pub timers: u8,
+    pub threadrows: [ThreadRow; 32],
+    pub mutexrows: [Mutex; 16],
+    pub ties: [u8; 16],
+    pub timerrows: [TimerRow; 32],
+}
+
+// The row of thread t; past the table zeros.
+pub fn thread_row(rows: [ThreadRow; 32], t: u8) -> ThreadRow
+    ensures { λ r. ⌜ r ≡ getD rows t noThreadRow ⌝ }
+{
+    if t < 32 {
+        let i = t as usize;
+        return rows[i];
+    }
+    ThreadRow {
+        base: 0,
+        state: 0,
+        object: 0,
+        place: 0,
+    }
+}
+
+// The row of mutex m; past the table zeros.
+pub fn mutex_row(rows: [Mutex; 16], m: u8) -> Mutex
+    ensures { λ r. ⌜ r ≡ getD rows m noMutexRow ⌝ }
+{
+    if m < 16 {
+        let i = m as usize;
+        return rows[i];
+    }
+    Mutex {
+        ceiling: 0,
+        owner: 0,
+        count: 0,
+    }
+}
+
+// The tie of condition variable c; past the table 0.
+pub fn tie_row(ties: [u8; 16], c: u8) -> u8
+    ensures { λ r. ⌜ r ≡ getD ties c 0 ⌝ }
+{
+    if c < 16 {
+        let i = c as usize;
+        return ties[i];
+    }
+    0
+}
+
+// The row of timer t; past the table zeros.
+pub fn timer_row(rows: [TimerRow; 32], t: u8) -> TimerRow
+    ensures { λ r. ⌜ r ≡ getD rows t noTimerRow ⌝ }
+{
+    if t < 32 {
+        let i = t as usize;
+        return rows[i];
+    }
+    TimerRow {
+        state: 0,
+        condition: 0,
+        length: 0,
+        left: 0,
+    }
+}
+
+impl Page {
+    // The page with no row at all.
+    pub fn blank() -> Page
+        ensures { λ r. ⌜ r ≡ pageFor nothing ⌝ }
+    {
+        let thread = ThreadRow {
+            base: 0,
+            state: 2,
+            object: 255,
+            place: 0,
+        };
+        let threadrows = [thread; 32];
+        let free = Mutex {
+            ceiling: 0,
+            owner: 255,
+            count: 0,
+        };
+        let mutexrows = [free; 16];
+        let ties = [255u8; 16];
+        let stopped = TimerRow {
+            state: 0,
+            condition: 255,
+            length: 0,
+            left: 0,
+        };
+        let timerrows = [stopped; 32];
+        Page {
+            started: false,
+            count: 0,
+            threads: 0,
+            mutexes: 0,
+            conditions: 0,
+            timers: 0,
+            threadrows,
+            mutexrows,
+            ties,
+            timerrows,
+        }
+    }
+}

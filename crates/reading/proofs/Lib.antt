@@ -1,0 +1,3 @@
+pub mod Testing
+pub mod Tables
+pub mod Forms

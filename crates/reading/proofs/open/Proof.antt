@@ -1,0 +1,74 @@
+-- `open` meets its contract: counts that do not fit, or the tests that decide right form. Assumes nothing.
+use Rattle.laws.specs.Bools.{not-not}
+use Rattle.reading.proofs.Testing.{denied}
+use Rattle.reading.proofs.Forms.{opened-wrong, opened-right}
+use borrow.Author.Needs.{needs}
+use Rattle.reading.proofs.open.Statement.{statement}
+use Rattle.reading.proofs.open.Tie as tie
+
+word-at-requires : tie.Need-word-at-requires
+word-at-requires c κs = search needs
+
+word-at-requires-2 : tie.Need-word-at-requires-2
+word-at-requires-2 c κs = search needs
+
+word-at-requires-3 : tie.Need-word-at-requires-3
+word-at-requires-3 c κs = search needs
+
+word-at-requires-4 : tie.Need-word-at-requires-4
+word-at-requires-4 c κs = search needs
+
+counts-fit-requires : tie.Need-counts-fit-requires
+counts-fit-requires c κs = search needs
+
+blank-requires : tie.Need-blank-requires
+blank-requires c κs = search needs
+
+returns : tie.Need-returns
+returns c =
+    let w = c .before .before .before in
+    let a = w .before .before .before .before .before .args in
+    opened-wrong (a .bytes .now) (w .before .before .before .word-at .ensures) (w .before .before .word-at2 .ensures) (w .before .word-at3 .ensures) (w .word-at4 .ensures) (c .before .before .counts-fit .ensures) (c .blank .result) (denied _ (c .before .if1 .taken))
+
+cast-read : tie.Need-cast-read
+cast-read c = search needs
+
+cast-read-2 : tie.Need-cast-read-2
+cast-read-2 c = search needs
+
+cast-read-3 : tie.Need-cast-read-3
+cast-read-3 c = search needs
+
+cast-read-4 : tie.Need-cast-read-4
+cast-read-4 c = search needs
+
+read-requires : tie.Need-read-requires
+read-requires c κs = search needs
+
+is-formed-requires : tie.Need-is-formed-requires
+is-formed-requires c κs = search needs
+
+returns-2 : tie.Need-returns-2
+returns-2 c =
+    let w = c .before .before .before .before in
+    let a = w .before .before .before .before .before .args in
+    opened-right (a .bytes .now) (w .before .before .before .word-at .ensures) (w .before .before .word-at2 .ensures) (w .before .word-at3 .ensures) (w .word-at4 .ensures) (c .before .before .before .counts-fit .ensures) (c .before .read .result) (c .is-formed .result) (not-not _ (c .before .before .if1 .left)) (λ j. w .before .before .before .before .shared-slice-known .given j .fits) (c .before .read .ensures) (c .is-formed .ensures)
+
+pub open-spec : {M : Type 1} → statement M
+open-spec =
+    tie.close
+    (tie.spec
+    word-at-requires
+    word-at-requires-2
+    word-at-requires-3
+    word-at-requires-4
+    counts-fit-requires
+    blank-requires
+    returns
+    cast-read
+    cast-read-2
+    cast-read-3
+    cast-read-4
+    read-requires
+    is-formed-requires
+    returns-2)

@@ -1,0 +1,53 @@
+-- `timer_at` meets its contract: two bytes and two words. Assumes nothing.
+use borrow.Author.Needs.{needs}
+use Rattle.reading.proofs.timer_at.Statement.{statement}
+use Rattle.reading.proofs.timer_at.Tie as tie
+
+add-i : tie.Need-add-i
+add-i c = search needs
+
+cast-byte-at : tie.Need-cast-byte-at
+cast-byte-at c = search needs
+
+byte-at-requires : tie.Need-byte-at-requires
+byte-at-requires c κs = search needs
+
+cast-byte-at-2 : tie.Need-cast-byte-at-2
+cast-byte-at-2 c = search needs
+
+add-byte-at : tie.Need-add-byte-at
+add-byte-at c = search needs
+
+byte-at-requires-2 : tie.Need-byte-at-requires-2
+byte-at-requires-2 c κs = search needs
+
+add-word-at : tie.Need-add-word-at
+add-word-at c = search needs
+
+word-at-requires : tie.Need-word-at-requires
+word-at-requires c κs = search needs
+
+add-word-at-2 : tie.Need-add-word-at-2
+add-word-at-2 c = search needs
+
+word-at-requires-2 : tie.Need-word-at-requires-2
+word-at-requires-2 c κs = search needs
+
+returns : tie.Need-returns
+returns c = λ i. record { state = c .before .before .before .byte-at .ensures i; condition = c .before .before .byte-at2 .ensures i; length = c .before .word-at .ensures i; left = c .word-at2 .ensures i }
+
+pub timer-at-spec : {M : Type 1} → statement M
+timer-at-spec =
+    tie.close
+    (tie.spec
+    add-i
+    cast-byte-at
+    byte-at-requires
+    cast-byte-at-2
+    add-byte-at
+    byte-at-requires-2
+    add-word-at
+    word-at-requires
+    add-word-at-2
+    word-at-requires-2
+    returns)

@@ -1,0 +1,73 @@
+// The saved record: a kernel loaded from bytes, and a kernel saved into a lent buffer.
+use build::build;
+use checks::sound;
+use describe::describe;
+use kernel::Kernel;
+use reading::open;
+use writing::total;
+use writing::write;
+ghost use mathlib.Core.Path.{_≡_};
+ghost use Rattle.saved.specs.Loading.{load};
+ghost use Rattle.record.specs.Records.{refusedModel, loadedOf, Saves};
+
+// What a load gives: its answer, and the kernel, which is boot's where the record is refused.
+pub struct Loaded {
+    pub answer: u8,
+    pub kernel: Kernel,
+}
+
+// What a save gives: its answer, and the length written, 0 where it is refused.
+pub struct Saved {
+    pub answer: u8,
+    pub length: u16,
+}
+
+// A refused load: the boot state.
+fn refused(answer: u8) -> Loaded
+    ensures { λ r. ⌜ r ≡ refusedModel answer ⌝ }
+{
+    let kernel = Kernel::boot();
+    Loaded { answer, kernel }
+}
+
+// The kernel of a record: 15 if it is of wrong form, then 1 if it is not sound.
+pub fn load(bytes: &[u8]) -> Loaded
+    ensures { λ r. ⌜ r ≡ loadedOf (load (now (bytes .entry))) ⌝ }
+{
+    let opened = open(bytes);
+    if !opened.formed {
+        return refused(15);
+    }
+    let page = opened.page;
+    let right = sound(page);
+    if !right {
+        return refused(1);
+    }
+    let engine = build(page);
+    let kernel = Kernel { engine };
+    Loaded { answer: 0, kernel }
+}
+
+// The record of a kernel, written first in the buffer: 1 if the kernel is not sound, then 16 if the buffer is shorter than the record.
+pub fn save(kernel: Kernel, buffer: &mut [u8]) -> Saved
+    ensures { λ r. ⌜ Saves kernel (now (buffer .entry)) r (now (buffer .exit)) ⌝ }
+{
+    let right = kernel.is_sound();
+    if !right {
+        return Saved {
+            answer: 1,
+            length: 0,
+        };
+    }
+    let engine = kernel.engine;
+    let page = describe(engine);
+    let length = total(page);
+    if buffer.len() < length as usize {
+        return Saved {
+            answer: 16,
+            length: 0,
+        };
+    }
+    write(page, buffer);
+    Saved { answer: 0, length }
+}
