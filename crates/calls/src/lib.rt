@@ -5,7 +5,7 @@ ghost use mathlib.Core.Bool.{_&&_, _||_};
 ghost use Prim.Native.Nat.{_<_};
 ghost use lib.Dec.{eqb};
 ghost use Rattle.calls.specs.Answers.{numberOf};
-ghost use Rattle.calls.specs.Rows.{fits, taken, kindOf, vOf, decoded};
+ghost use Rattle.calls.specs.Rows.{fits, taken, kindOf, vOf, decoded, namesNone, namesA, namesAB, namesAll};
 
 // One-shot or periodic.
 pub enum Kind {
@@ -170,55 +170,83 @@ fn kind_of(kind: u8) -> Kind
     }
 }
 
-// A row taken apart.
-pub fn decode(row: [u8; 8]) -> Decoded
-    ensures { λ r. ⌜ r ≡ decoded row ⌝ }
+// A call that names no field.
+fn naming_none(call: Call, row: [u8; 8]) -> Decoded
+    ensures { λ r. ⌜ r ≡ taken namesNone call row ⌝ }
 {
-    let none = Named {
+    let named = Named {
         a: false,
         b: false,
         kind: false,
         v: false,
     };
-    let one = Named {
+    taken(named, call, row)
+}
+
+// A call that names a.
+fn naming_a(call: Call, row: [u8; 8]) -> Decoded
+    ensures { λ r. ⌜ r ≡ taken namesA call row ⌝ }
+{
+    let named = Named {
         a: true,
         b: false,
         kind: false,
         v: false,
     };
-    let two = Named {
+    taken(named, call, row)
+}
+
+// A call that names a and b.
+fn naming_ab(call: Call, row: [u8; 8]) -> Decoded
+    ensures { λ r. ⌜ r ≡ taken namesAB call row ⌝ }
+{
+    let named = Named {
         a: true,
         b: true,
         kind: false,
         v: false,
     };
-    let all = Named {
+    taken(named, call, row)
+}
+
+// A call that names a, b, kind and v.
+fn naming_all(call: Call, row: [u8; 8]) -> Decoded
+    ensures { λ r. ⌜ r ≡ taken namesAll call row ⌝ }
+{
+    let named = Named {
         a: true,
         b: true,
         kind: true,
         v: true,
     };
+    taken(named, call, row)
+}
+
+// A row taken apart.
+pub fn decode(row: [u8; 8]) -> Decoded
+    ensures { λ r. ⌜ r ≡ decoded row ⌝ }
+{
     let code = row[0];
     let a = row[1];
     let b = row[2];
     match code {
-        1 => taken(none, Call::Start, row),
-        2 => taken(one, Call::CreateThread(a), row),
-        3 => taken(one, Call::CreateMutex(a), row),
-        4 => taken(none, Call::CreateCondition, row),
-        5 => taken(none, Call::CreateTimer, row),
-        6 => taken(one, Call::Acquire(a), row),
-        7 => taken(one, Call::Release(a), row),
-        8 => taken(two, Call::Wait(a, b), row),
-        9 => taken(one, Call::Signal(a), row),
-        10 => taken(one, Call::Broadcast(a), row),
+        1 => naming_none(Call::Start, row),
+        2 => naming_a(Call::CreateThread(a), row),
+        3 => naming_a(Call::CreateMutex(a), row),
+        4 => naming_none(Call::CreateCondition, row),
+        5 => naming_none(Call::CreateTimer, row),
+        6 => naming_a(Call::Acquire(a), row),
+        7 => naming_a(Call::Release(a), row),
+        8 => naming_ab(Call::Wait(a, b), row),
+        9 => naming_a(Call::Signal(a), row),
+        10 => naming_a(Call::Broadcast(a), row),
         11 => {
             let kind = kind_of(row[3]);
             let v = number_of_row(row);
-            taken(all, Call::StartTimer(a, b, kind, Micros(v)), row)
+            naming_all(Call::StartTimer(a, b, kind, Micros(v)), row)
         }
-        12 => taken(one, Call::StopTimer(a), row),
-        13 => taken(none, Call::Tick, row),
+        12 => naming_a(Call::StopTimer(a), row),
+        13 => naming_none(Call::Tick, row),
         _ => Decoded::WrongForm,
     }
 }

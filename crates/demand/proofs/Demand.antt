@@ -1,71 +1,142 @@
--- Demand 3 for the code: through any number of rows, refused ones and rows of wrong form included, the answers of the code's row step equal the
--- plain book's, and the engine describes a state whose saved record is the book's.
+-- Demand 3 for the code: from boot or a record that loads, through any number of rows, whatever the promises of the code allow, the answers and the
+-- saved record equal those of the plain book. And the inner step, repeated after one test of soundness, is the public step repeated.
 -- Assumes nothing.
-use Prim.Native.Nat.{ℕ}
-use mathlib.Core.Path.{_≡_, refl, sym, ap, ap₂, _∙_}
+use Prim.Native.Nat.{ℕ, suc, _≤_}
+use mathlib.Core.Path.{_≡_, refl, sym, ap, ap₂, _∙_, subst}
 use mathlib.Core.Bool.{true}
-use mathlib.Core.List.{List, [], _∷_}
+use mathlib.Core.List.{List, [], _∷_, _++_}
+use native.Mathlib.Omega.{arith}
+use lib.ListN.{length, drop}
+use Rattle.calls.specs.declared.Answer.{Answer}
 use Rattle.calls.specs.declared.Decoded.{Decoded}
 use Rattle.calls.specs.declared.Decoded.the-variants.{Taken, WrongForm}
-use Rattle.calls.specs.declared.Verdict.the-variants.{Done}
+use Rattle.calls.specs.declared.Verdict.{Verdict}
+use Rattle.calls.specs.declared.Verdict.the-variants.{Done, NotSound, Stopped, AlreadyStarted, NoSuchId, IdleCaller, OutOfRange, TableFull, AboveCeiling, NotOwner, CountFull, HoldingMore, TiedElsewhere, TimerRunning, TimerStopped, WrongRecord, BufferShort, WrongRow}
+use Rattle.calls.specs.Answers.{numberOf}
 use Rattle.calls.specs.Rows.{decoded}
 use Rattle.rules.specs.State.{State, boot}
 use Rattle.rules.specs.Sound.{sound}
-use Rattle.rules.specs.Step.{stepRow}
+use Rattle.rules.specs.Step.{stepDecoded, stepRow}
 use Rattle.soundness.proofs.Kept.{row-keeps, boot-is-sound}
 use Rattle.book.specs.Book.{Book}
-use Rattle.book.specs.Turns.{bookAnswers, bookFinal}
-use Rattle.book.specs.Shown.{bookBoot, enter, show}
+use Rattle.book.specs.Shown.{bookBoot, enter}
 use Rattle.book.specs.Answers.{answersOf, finalOf}
-use Rattle.saved.specs.Record.{recordOf, pageIn}
-use Rattle.saved.specs.Loading.{load, saved}
-use Rattle.saved.proofs.Loading.{loaded-is-sound}
-use Rattle.saved.proofs.Demand.{EqualBytes, demand-3-records, demand-3-records-from-boot}
+use Rattle.saved.specs.Record.{pageIn}
+use Rattle.saved.specs.Loading.{load, save, saved}
+use Rattle.saved.proofs.Loading.{loaded-is-sound, save-done}
+use Rattle.saved.specs.Demand.{EqualBytes}
+use Rattle.saved.proofs.Demand.{demand-3-records, demand-3-records-from-boot}
 use Rattle.engine.specs.declared.Engine.{Engine}
 use Rattle.engine.specs.Models.{stepModel}
-use Rattle.engine.specs.Stands.{engineOf, steppedOf}
+use Rattle.engine.specs.Stands as engine
+use Rattle.engine.specs.Stands.{engineOf}
 use Rattle.engine.proofs.Steps.{step-promise}
 use Rattle.rows.specs.Rows.{rowModel}
 use Rattle.rows.proofs.Meaning.{wrong-promise, taken-promise}
-use Rattle.demand.specs.Repeated.{codeAnswers, codeFinal}
+use Rattle.kernel.specs.declared.Kernel.{Kernel}
+use Rattle.kernel.specs.declared.Stepped.{Stepped}
+use Rattle.kernel.specs.Kernels.{kernelOf, steppedOf}
+use Rattle.record.specs.declared.Loaded.{Loaded}
+use Rattle.record.specs.Records.{loadedOf, savedOf}
+use Rattle.demand.specs.Repeated.{Repeats, innerAnswers, innerFinal, SavesRecord, Agrees}
+
+-- ---- any number of rows
+
+-- whatever the public step repeated gives is what document 01's definition gives
+pub rows-step : (s : State) → sound s ≡ true → (x : Kernel) → x ≡ kernelOf s → (rows : List (List ℕ)) (answers : List Answer) (y : Kernel) → Repeats x rows answers y
+    → (answers ≡ answersOf s rows) × (y ≡ kernelOf (finalOf s rows))
+unfolding answersOf finalOf
+rows-step s e x d [] answers y w = (w .0, w .1 ∙ d)
+rows-step s e x d (row ∷ rows) answers y w =
+    let one : w .0 ≡ steppedOf (stepRow s row) = unfold stepRow in (w .2 .of-sound s e d) in
+    let others = rows-step (stepRow s row .state) (row-keeps s row e) (w .0 .kernel) (ap (λ (r : Stepped). r .kernel) one) rows (w .1) y (w .4) in
+    (w .3 ∙ ap₂ (λ (r : Stepped) rest. r .answer ∷ rest) one (others .0), others .1)
 
 -- a row of the engine that describes a sound state is document 01's row
-row-steps : (s : State) → sound s ≡ true → (row : List ℕ) → rowModel (engineOf s) row ≡ steppedOf (stepRow s row)
+row-steps : (s : State) → sound s ≡ true → (row : List ℕ) → rowModel (engineOf s) row ≡ engine.steppedOf (stepRow s row)
 row-steps s e row = by (decoded row) refl
   where
-    by : (d : Decoded) → decoded row ≡ d → rowModel (engineOf s) row ≡ steppedOf (stepRow s row)
+    by : (d : Decoded) → decoded row ≡ d → rowModel (engineOf s) row ≡ engine.steppedOf (stepRow s row)
     by WrongForm w = let p = wrong-promise (engineOf s) row _ w refl in sym (p .0) ∙ p .1 s e refl
     by (Taken call) w = let p = taken-promise (engineOf s) row (stepModel (engineOf s) call) w (step-promise (engineOf s) call _ refl) in sym (p .0) ∙ p .1 s e refl
 
--- through any number of rows the code answers as document 01's definition does, and describes its state
-pub rows-step : (s : State) → sound s ≡ true → (rows : List (List ℕ)) → (codeAnswers (engineOf s) rows ≡ answersOf s rows) × (codeFinal (engineOf s) rows ≡ engineOf (finalOf s rows))
-unfolding codeAnswers codeFinal answersOf finalOf
-rows-step s e [] = (refl, refl)
-rows-step s e (row ∷ rows) =
+-- the inner step repeated gives it too
+pub inner-rows-step : (s : State) → sound s ≡ true → (rows : List (List ℕ)) → (innerAnswers (engineOf s) rows ≡ answersOf s rows) × (innerFinal (engineOf s) rows ≡ engineOf (finalOf s rows))
+unfolding innerAnswers innerFinal answersOf finalOf
+inner-rows-step s e [] = (refl, refl)
+inner-rows-step s e (row ∷ rows) =
     let one = row-steps s e row in
-    let others = rows-step (stepRow s row .state) (row-keeps s row e) rows in (
-      ap (λ r. r .answer ∷ codeAnswers (r .engine) rows) one ∙ ap (λ rest. stepRow s row .answer ∷ rest) (others .0),
-      ap (λ r. codeFinal (r .engine) rows) one ∙ others .1,
+    let others = inner-rows-step (stepRow s row .state) (row-keeps s row e) rows in (
+      ap (λ r. r .answer ∷ innerAnswers (r .engine) rows) one ∙ ap (λ rest. stepRow s row .answer ∷ rest) (others .0),
+      ap (λ r. innerFinal (r .engine) rows) one ∙ others .1,
     )
+
+-- so after one test of soundness the inner step repeated is the public step repeated
+pub inner-is-public : (s : State) → sound s ≡ true → (rows : List (List ℕ)) (answers : List Answer) (y : Kernel) → Repeats (kernelOf s) rows answers y
+    → (answers ≡ innerAnswers (engineOf s) rows) × (y ≡ record { engine = innerFinal (engineOf s) rows })
+inner-is-public s e rows answers y w =
+    let public = rows-step s e (kernelOf s) refl rows answers y w in
+    let inner = inner-rows-step s e rows in
+    (public .0 ∙ sym (inner .0), public .1 ∙ (λ i. record { engine = sym (inner .1) i }))
+
+-- soundness is kept through any number of rows
+pub rows-keep : (s : State) → sound s ≡ true → (rows : List (List ℕ)) → sound (finalOf s rows) ≡ true
+unfolding finalOf
+rows-keep s e [] = e
+rows-keep s e (row ∷ rows) = rows-keep (stepRow s row .state) (row-keeps s row e) rows
+
+-- ---- saving
+
+-- whatever a save of a sound state gives is its record
+saves-its-record : (s : State) → sound s ≡ true → (y : Kernel) → y ≡ kernelOf s → (bytes : List ℕ) → saved s ≡ bytes → SavesRecord y bytes
+saves-its-record s e y d bytes same before r after w long =
+    let o = w .of-sound s e d in
+    let q = save-done s before e (subst (λ l. length l ≤ length before) (sym same) long) in
+    (o .0 ∙ ap savedOf q ∙ ap (λ l. record { answer = 0; length = length l }) same, o .1 ∙ ap (λ z. z .buffer) q ∙ ap (λ l. l ++ drop (length l) before) same)
 
 -- ---- demand 3
 
--- what the demand says of a engine that describes state s, and a book: after any rows the answers are equal, and the engine describes a state whose
--- saved record is the one that the book shows
-abbrev pub Agree : State → Book → Type 0
-Agree s b =
-    (rows : List (List ℕ))
-    → (codeAnswers (engineOf s) rows ≡ bookAnswers b rows)
-    × (codeFinal (engineOf s) rows ≡ engineOf (finalOf s rows))
-    × (saved (finalOf s rows) ≡ recordOf (show (bookFinal b rows)))
+-- state and book that are equal in bytes make kernel and book agree
+agree : (s : State) (b : Book) → sound s ≡ true → EqualBytes s b → (x : Kernel) → x ≡ kernelOf s → Agrees x b
+agree s b e equal x d rows answers y w =
+    let r = rows-step s e x d rows answers y w in
+    (r .0 ∙ equal rows .0, saves-its-record (finalOf s rows) (rows-keep s e rows) y (r .1) _ (equal rows .1))
 
-agree : (s : State) (b : Book) → sound s ≡ true → EqualBytes s b → Agree s b
-agree s b e x rows = let r = rows-step s e rows in (r .0 ∙ x rows .0, r .1, x rows .1)
+-- ---- the answer 0 of a load
 
--- from boot, which is what `Engine::boot` gives
-pub code-agrees-from-boot : Agree boot bookBoot
-code-agrees-from-boot = agree boot bookBoot boot-is-sound demand-3-records-from-boot
+-- a number above 0 is not 0
+apart : {n : ℕ} → suc n ≡ 0 → ⊥
+apart e = omega (arith, e)
 
--- from the state of a record that loads
-pub code-agrees-from-record : (bytes : List ℕ) → load bytes .answer ≡ Done → Agree (load bytes .state) (enter (pageIn bytes))
-code-agrees-from-record bytes d = agree (load bytes .state) (enter (pageIn bytes)) (loaded-is-sound bytes) (demand-3-records bytes d)
+-- of the document's numbers 0 is done
+zero-is-done : (v : Verdict) → numberOf v ≡ 0 → v ≡ Done
+zero-is-done Done e = refl
+zero-is-done NotSound e = absurd (apart e)
+zero-is-done Stopped e = absurd (apart e)
+zero-is-done AlreadyStarted e = absurd (apart e)
+zero-is-done NoSuchId e = absurd (apart e)
+zero-is-done IdleCaller e = absurd (apart e)
+zero-is-done OutOfRange e = absurd (apart e)
+zero-is-done TableFull e = absurd (apart e)
+zero-is-done AboveCeiling e = absurd (apart e)
+zero-is-done NotOwner e = absurd (apart e)
+zero-is-done CountFull e = absurd (apart e)
+zero-is-done HoldingMore e = absurd (apart e)
+zero-is-done TiedElsewhere e = absurd (apart e)
+zero-is-done TimerRunning e = absurd (apart e)
+zero-is-done TimerStopped e = absurd (apart e)
+zero-is-done WrongRecord e = absurd (apart e)
+zero-is-done BufferShort e = absurd (apart e)
+zero-is-done WrongRow e = absurd (apart e)
+
+-- ---- the theorem
+
+-- from boot: whatever `Kernel::boot` promises
+pub kernel-agrees-from-boot : (x : Kernel) → x ≡ kernelOf boot → Agrees x bookBoot
+kernel-agrees-from-boot x d = agree boot bookBoot boot-is-sound demand-3-records-from-boot x d
+
+-- from a record that loads: whatever `load` promises, where it answers 0
+pub kernel-agrees-from-record : (bytes : List ℕ) (l : Loaded) → l ≡ loadedOf (load bytes) → l .answer ≡ 0 → Agrees (l .kernel) (enter (pageIn bytes))
+kernel-agrees-from-record bytes l d z =
+    let loads = zero-is-done (load bytes .answer) (sym (ap (λ (k : Loaded). k .answer) d) ∙ z) in
+    agree (load bytes .state) (enter (pageIn bytes)) (loaded-is-sound bytes) (demand-3-records bytes loads) (l .kernel) (ap (λ (k : Loaded). k .kernel) d)

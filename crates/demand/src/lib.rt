@@ -1,2 +1,1 @@
-// Demand 3 for the code's row step, repeated over any number of rows: its answers are the plain book's.
-// There is no code here.
+// Demand 3 for the code: the kernel's row step repeated, with what load and save give, against the plain book. There is no code here.

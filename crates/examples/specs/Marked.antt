@@ -6,19 +6,12 @@ use lib.ListN.{getD, set, take}
 use Rattle.calls.specs.Answers.{numberOf}
 use Rattle.rules.specs.State.{boot}
 use Rattle.rules.specs.Examples.{Example, table}
+use Rattle.saved.specs.Record.{bootRecord}
 use Rattle.saved.specs.Loading.{load, saved}
 use Rattle.wheel.specs.declared.Wheel.{Wheel}
 use Rattle.wheel.specs.Hung.{empty}
 use Rattle.wheel.specs.Wheels.{wheelOf, idsOf}
 use Rattle.wheel.specs.Inside.{startedIn, tickedIn}
-
--- 01 00 00 00 00 00 00 00 18 00 1C 00 1C 00 1C 00 1C 00 00 00 00 00 00 00 00 01 FF 00
-abbrev pub bootBytes : List ℕ
-bootBytes =
-    1 ∷ 0 ∷ 0 ∷ 0 ∷ 0 ∷ 0 ∷ 0 ∷ 0
-    ∷ 24 ∷ 0 ∷ 28 ∷ 0 ∷ 28 ∷ 0 ∷ 28 ∷ 0
-    ∷ 28 ∷ 0 ∷ 0 ∷ 0 ∷ 0 ∷ 0 ∷ 0 ∷ 0
-    ∷ 0 ∷ 1 ∷ 255 ∷ 0 ∷ []
 
 -- the number that a load answers
 abbrev pub loadAnswer : List ℕ → ℕ
@@ -39,8 +32,8 @@ countAndDue w = tickedIn w .wheel .position ∷ idsOf (tickedIn w .due)
 unfoldable pub marked : List Example
 marked =
     -- E1 the boot record; it loads; 27 bytes of it: 15; its thread 0 with base 1: 1
-    record { shown = saved boot; seen = bootBytes }
-    ∷ record { shown = loadAnswer bootBytes ∷ loadAnswer (take 27 bootBytes) ∷ loadAnswer (set bootBytes 24 1) ∷ []; seen = 0 ∷ 15 ∷ 1 ∷ [] }
+    record { shown = saved boot; seen = bootRecord }
+    ∷ record { shown = loadAnswer bootRecord ∷ loadAnswer (take 27 bootRecord) ∷ loadAnswer (set bootRecord 24 1) ∷ []; seen = 0 ∷ 15 ∷ 1 ∷ [] }
     -- E4 count 0: 64 ticks give spoke 0, turns 0; 65 spoke 1, turns 1; 128 spoke 0, turns 1
     ∷ record { shown = spokeAndTurns (begun 0 64); seen = 0 ∷ 0 ∷ [] }
     ∷ record { shown = spokeAndTurns (begun 0 65); seen = 1 ∷ 1 ∷ [] }

@@ -4,7 +4,7 @@
 use Prim.Native.Nat.{ℕ, _≤_}
 use mathlib.Core.Path.{_≡_, refl, sym, ap, _∙_, subst}
 use mathlib.Core.Logic.{_↔_}
-use mathlib.Core.Bool.{Bool, true, false, not, _&&_, true≢false}
+use mathlib.Core.Bool.{Bool, true, false, _&&_, true≢false}
 use lib.ListN.{length, length-map}
 use Rattle.laws.specs.Bools.{and-left, and-right, and-both}
 use Rattle.rules.specs.State.{State}
@@ -62,11 +62,6 @@ build-after-describe s e =
     ap buildModel (describe-means s e) ∙ built (pageOf s) (w .0) (w .1) ∙ ap engineOf (w .2)
 
 -- ---- the test
-
--- what is denied is false
-pub denied : (b : Bool) → not b ≡ true → b ≡ false
-denied true e = sym e
-denied false e = refl
 
 -- the test of the page that describes an engine
 abbrev pub pagePasses : Engine → Bool

@@ -71,6 +71,11 @@ and-right false b e = absurd (false≢true e)
 pub and-both : (a b : Bool) → a ≡ true → b ≡ true → (a && b) ≡ true
 and-both a b e f = rw (e, f) refl
 
+-- what is denied is false
+pub denied : (b : Bool) → not b ≡ true → b ≡ false
+denied true e = sym e
+denied false e = refl
+
 pub not-not : (b : Bool) → not b ≡ false → b ≡ true
 not-not true e = refl
 not-not false e = absurd (true≢false e)

@@ -9,7 +9,7 @@ use lib.ListN.{length, getD, take, drop, replicate, length-replicate, List·getD
 use lib.Seq.{sets, sets-eq}
 use lib.Dec.{eqb, ltb, leb}
 use borrow.Author.Tests.{eqb-true, leb-true, ltb-false, le-leb, eq-eqb}
-use Rattle.laws.specs.Bools.{and-left, and-right, and-both, nor-right, self, refuted, no-way}
+use Rattle.laws.specs.Bools.{and-left, and-right, and-both, nor-right, denied, self, refuted, no-way}
 use Rattle.laws.specs.Lists.{tabulate}
 use Rattle.rules.specs.Sound.{all, each}
 use Rattle.rules.specs.Page.{threadFormed, timerFormed, eachRow, pageFormed}
@@ -22,7 +22,6 @@ use Rattle.page.specs.declared.Page.{Page}
 use Rattle.page.specs.Says.{threadSaid, timerSaid, noThreadRow, noTimerRow, said}
 use Rattle.writing.proofs.Whole.{header, total-is}
 use Rattle.reading.specs.Rows.{readModel, fitting, agree, sameBytes}
-use Rattle.reading.proofs.Testing.{denied}
 use Rattle.reading.proofs.Tables.{read-page}
 
 -- ---- the states

@@ -2,7 +2,7 @@
 -- Assumes nothing.
 use Prim.Native.Nat.{ℕ, zero, suc, _+_, _-_, _<_, _≤_}
 use mathlib.Core.Path.{_≡_, refl, sym, ap, ap₂, _∙_}
-use mathlib.Core.Bool.{Bool, true, false, not, _&&_}
+use mathlib.Core.Bool.{Bool, true, false, _&&_}
 use mathlib.Core.List.{List, [], _∷_}
 use native.Mathlib.Omega.{arith}
 use lib.Dec.{eqb}
@@ -65,8 +65,3 @@ other-byte one other n h e = sym (last-byte one other n h ∙ ap (λ b. b && agr
 pub no-byte : (one other : List ℕ) (n : ℕ) → n ≤ 0 → true ≡ agree n one other
 unfolding each
 no-byte one other n h = let e : n ≡ 0 = omega arith in sym (ap (λ k. agree k one other) e)
-
--- what is denied is false
-pub denied : (b : Bool) → not b ≡ true → b ≡ false
-denied true e = sym e
-denied false e = refl

@@ -7,18 +7,14 @@ use mathlib.Core.List.{List}
 use Rattle.calls.specs.declared.Verdict.the-variants.{Done}
 use Rattle.rules.specs.State.{State, boot}
 use Rattle.book.specs.Book.{Book}
-use Rattle.book.specs.Turns.{bookAnswers, bookFinal}
-use Rattle.book.specs.Shown.{bookBoot, enter, show}
-use Rattle.book.specs.Answers.{answersOf, finalOf}
-use Rattle.book.proofs.Demand.{Equal, demand-3-from-boot, demand-3-from-page}
+use Rattle.book.specs.Shown.{bookBoot, enter}
+use Rattle.book.specs.Answers.{Equal}
+use Rattle.book.proofs.Demand.{demand-3-from-boot, demand-3-from-page}
+use Rattle.saved.specs.Demand.{EqualBytes}
 use Rattle.saved.specs.Record.{recordOf, pageIn}
-use Rattle.saved.specs.Loading.{Loaded, load, saved}
+use Rattle.saved.specs.Loading.{Loaded, load}
 use Rattle.saved.proofs.Writing.{states-formed}
 use Rattle.saved.proofs.Loading.{load-done, done-load}
-
--- what the demand says of a state and a book: equal answers and equal bytes saved, after any rows
-abbrev pub EqualBytes : State → Book → Type 0
-EqualBytes s b = (rows : List (List ℕ)) → (answersOf s rows ≡ bookAnswers b rows) × (saved (finalOf s rows) ≡ recordOf (show (bookFinal b rows)))
 
 -- equal pages are equal bytes
 in-bytes : (s : State) (b : Book) → Equal s b → EqualBytes s b

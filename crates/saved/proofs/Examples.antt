@@ -14,16 +14,8 @@ use Rattle.rules.specs.State.{same, at, highestCeiling, priority, owned, boot}
 use Rattle.rules.specs.Sound.{each, timersSound, noneGoes}
 use Rattle.rules.specs.Page.{Page, whereOf, timerStateOf, runnerFrom, rowsOf, queueOf, setOf, describedBy, howMany, eachRow, pageFormed, pageSound}
 use Rattle.pages.proofs.Pages.{boot-page}
-use Rattle.saved.specs.Record.{headerBytes, headerIn, headerOf, recordOf, cutRows, pageIn, formed}
+use Rattle.saved.specs.Record.{headerBytes, headerIn, headerOf, recordOf, cutRows, pageIn, formed, bootRecord}
 use Rattle.saved.specs.Loading.{Loaded, load, saved}
-
--- 01 00 00 00 00 00 00 00 18 00 1C 00 1C 00 1C 00 1C 00 00 00 00 00 00 00 00 01 FF 00
-abbrev pub bootRecord : List ℕ
-bootRecord =
-    1 ∷ 0 ∷ 0 ∷ 0 ∷ 0 ∷ 0 ∷ 0 ∷ 0
-    ∷ 24 ∷ 0 ∷ 28 ∷ 0 ∷ 28 ∷ 0 ∷ 28 ∷ 0
-    ∷ 28 ∷ 0 ∷ 0 ∷ 0 ∷ 0 ∷ 0 ∷ 0 ∷ 0
-    ∷ 0 ∷ 1 ∷ 255 ∷ 0 ∷ []
 
 -- it is the record of boot
 pub boot-record : saved boot ≡ bootRecord

@@ -1,2 +1,3 @@
 pub mod Record
 pub mod Loading
+pub mod Demand

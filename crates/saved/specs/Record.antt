@@ -217,3 +217,13 @@ rightForm bytes =
 -- right form: no clause of wrong form is so
 unfoldable pub formed : List ℕ → Bool
 formed bytes = all (rightForm bytes)
+
+-- ---- the boot record, whole
+
+-- 01 00 00 00 00 00 00 00 18 00 1C 00 1C 00 1C 00 1C 00 00 00 00 00 00 00 00 01 FF 00
+abbrev pub bootRecord : List ℕ
+bootRecord =
+    1 ∷ 0 ∷ 0 ∷ 0 ∷ 0 ∷ 0 ∷ 0 ∷ 0
+    ∷ 24 ∷ 0 ∷ 28 ∷ 0 ∷ 28 ∷ 0 ∷ 28 ∷ 0
+    ∷ 28 ∷ 0 ∷ 0 ∷ 0 ∷ 0 ∷ 0 ∷ 0 ∷ 0
+    ∷ 0 ∷ 1 ∷ 255 ∷ 0 ∷ []

@@ -7,4 +7,3 @@ pub mod Dues
 pub mod Laws
 pub mod Filling
 pub mod Theorems
-pub mod Examples

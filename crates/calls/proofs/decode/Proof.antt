@@ -15,35 +15,35 @@ array-read-a c = search needs
 array-read-b : tie.Need-array-read-b
 array-read-b c = search needs
 
-taken-requires : tie.Need-taken-requires
-taken-requires c κs = search needs
+naming-none-requires : tie.Need-naming-none-requires
+naming-none-requires c κs = search needs
 
-taken-requires-2 : tie.Need-taken-requires-2
-taken-requires-2 c κs = search needs
+naming-a-requires : tie.Need-naming-a-requires
+naming-a-requires c κs = search needs
 
-taken-requires-3 : tie.Need-taken-requires-3
-taken-requires-3 c κs = search needs
+naming-a-requires-2 : tie.Need-naming-a-requires-2
+naming-a-requires-2 c κs = search needs
 
-taken-requires-4 : tie.Need-taken-requires-4
-taken-requires-4 c κs = search needs
+naming-none-requires-2 : tie.Need-naming-none-requires-2
+naming-none-requires-2 c κs = search needs
 
-taken-requires-5 : tie.Need-taken-requires-5
-taken-requires-5 c κs = search needs
+naming-none-requires-3 : tie.Need-naming-none-requires-3
+naming-none-requires-3 c κs = search needs
 
-taken-requires-6 : tie.Need-taken-requires-6
-taken-requires-6 c κs = search needs
+naming-a-requires-3 : tie.Need-naming-a-requires-3
+naming-a-requires-3 c κs = search needs
 
-taken-requires-7 : tie.Need-taken-requires-7
-taken-requires-7 c κs = search needs
+naming-a-requires-4 : tie.Need-naming-a-requires-4
+naming-a-requires-4 c κs = search needs
 
-taken-requires-8 : tie.Need-taken-requires-8
-taken-requires-8 c κs = search needs
+naming-ab-requires : tie.Need-naming-ab-requires
+naming-ab-requires c κs = search needs
 
-taken-requires-9 : tie.Need-taken-requires-9
-taken-requires-9 c κs = search needs
+naming-a-requires-5 : tie.Need-naming-a-requires-5
+naming-a-requires-5 c κs = search needs
 
-taken-requires-10 : tie.Need-taken-requires-10
-taken-requires-10 c κs = search needs
+naming-a-requires-6 : tie.Need-naming-a-requires-6
+naming-a-requires-6 c κs = search needs
 
 array-read-kind-of : tie.Need-array-read-kind-of
 array-read-kind-of c = search needs
@@ -54,66 +54,66 @@ kind-of-requires c κs = search needs
 number-of-row-requires : tie.Need-number-of-row-requires
 number-of-row-requires c κs = search needs
 
-taken-requires-11 : tie.Need-taken-requires-11
-taken-requires-11 c κs = search needs
+naming-all-requires : tie.Need-naming-all-requires
+naming-all-requires c κs = search needs
 
-taken-requires-12 : tie.Need-taken-requires-12
-taken-requires-12 c κs = search needs
+naming-a-requires-7 : tie.Need-naming-a-requires-7
+naming-a-requires-7 c κs = search needs
 
-taken-requires-13 : tie.Need-taken-requires-13
-taken-requires-13 c κs = search needs
+naming-none-requires-4 : tie.Need-naming-none-requires-4
+naming-none-requires-4 c κs = search needs
 
 returns : tie.Need-returns
 unfolding decoded byCode
-returns c = rw (c .before .match .keys1) (c .taken .ensures)
+returns c = rw (c .before .match .keys1) (c .naming-none .ensures)
 
 returns-2 : tie.Need-returns-2
 unfolding decoded byCode
-returns-2 c = rw (c .before .match .keys2) (c .taken2 .ensures)
+returns-2 c = rw (c .before .match .keys2) (c .naming-a .ensures)
 
 returns-3 : tie.Need-returns-3
 unfolding decoded byCode
-returns-3 c = rw (c .before .match .keys3) (c .taken3 .ensures)
+returns-3 c = rw (c .before .match .keys3) (c .naming-a2 .ensures)
 
 returns-4 : tie.Need-returns-4
 unfolding decoded byCode
-returns-4 c = rw (c .before .match .keys4) (c .taken4 .ensures)
+returns-4 c = rw (c .before .match .keys4) (c .naming-none2 .ensures)
 
 returns-5 : tie.Need-returns-5
 unfolding decoded byCode
-returns-5 c = rw (c .before .match .keys5) (c .taken5 .ensures)
+returns-5 c = rw (c .before .match .keys5) (c .naming-none3 .ensures)
 
 returns-6 : tie.Need-returns-6
 unfolding decoded byCode
-returns-6 c = rw (c .before .match .keys6) (c .taken6 .ensures)
+returns-6 c = rw (c .before .match .keys6) (c .naming-a3 .ensures)
 
 returns-7 : tie.Need-returns-7
 unfolding decoded byCode
-returns-7 c = rw (c .before .match .keys7) (c .taken7 .ensures)
+returns-7 c = rw (c .before .match .keys7) (c .naming-a4 .ensures)
 
 returns-8 : tie.Need-returns-8
 unfolding decoded byCode
-returns-8 c = rw (c .before .match .keys8) (c .taken8 .ensures)
+returns-8 c = rw (c .before .match .keys8) (c .naming-ab .ensures)
 
 returns-9 : tie.Need-returns-9
 unfolding decoded byCode
-returns-9 c = rw (c .before .match .keys9) (c .taken9 .ensures)
+returns-9 c = rw (c .before .match .keys9) (c .naming-a5 .ensures)
 
 returns-10 : tie.Need-returns-10
 unfolding decoded byCode
-returns-10 c = rw (c .before .match .keys10) (c .taken10 .ensures)
+returns-10 c = rw (c .before .match .keys10) (c .naming-a6 .ensures)
 
 returns-11 : tie.Need-returns-11
 unfolding decoded byCode
-returns-11 c = rw (c .before .before .before .match .keys11, ← c .before .number-of-row .ensures, ← c .before .before .kind-of .ensures) (c .taken11 .ensures)
+returns-11 c = rw (c .before .before .before .match .keys11, ← c .before .number-of-row .ensures, ← c .before .before .kind-of .ensures) (c .naming-all .ensures)
 
 returns-12 : tie.Need-returns-12
 unfolding decoded byCode
-returns-12 c = rw (c .before .match .keys12) (c .taken12 .ensures)
+returns-12 c = rw (c .before .match .keys12) (c .naming-a7 .ensures)
 
 returns-13 : tie.Need-returns-13
 unfolding decoded byCode
-returns-13 c = rw (c .before .match .keys13) (c .taken13 .ensures)
+returns-13 c = rw (c .before .match .keys13) (c .naming-none4 .ensures)
 
 returns-14 : tie.Need-returns-14
 unfolding decoded byCode
@@ -129,22 +129,22 @@ decode-spec =
     array-read-code
     array-read-a
     array-read-b
-    taken-requires
-    taken-requires-2
-    taken-requires-3
-    taken-requires-4
-    taken-requires-5
-    taken-requires-6
-    taken-requires-7
-    taken-requires-8
-    taken-requires-9
-    taken-requires-10
+    naming-none-requires
+    naming-a-requires
+    naming-a-requires-2
+    naming-none-requires-2
+    naming-none-requires-3
+    naming-a-requires-3
+    naming-a-requires-4
+    naming-ab-requires
+    naming-a-requires-5
+    naming-a-requires-6
     array-read-kind-of
     kind-of-requires
     number-of-row-requires
-    taken-requires-11
-    taken-requires-12
-    taken-requires-13
+    naming-all-requires
+    naming-a-requires-7
+    naming-none-requires-4
     returns
     returns-2
     returns-3

@@ -7,7 +7,7 @@ use borrow.Author.Needs.{needs}
 use Rattle.rules.specs.Page.{noRow}
 use Rattle.page.specs.Says.{threadFor}
 use Rattle.describe.specs.Models.{threadModel}
-use Rattle.describe.proofs.Filling.{filled, fill-none, fill-next, fill-all}
+use Rattle.laws.specs.Filling.{filled, fill-none, fill-next, fill-all}
 use Rattle.describe.proofs.thread_rows.Statement.{statement}
 use Rattle.describe.proofs.thread_rows.Tie as tie
 

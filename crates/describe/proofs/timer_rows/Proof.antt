@@ -7,7 +7,7 @@ use borrow.Author.Needs.{needs}
 use Rattle.queue.proofs.Cases.{cases}
 use Rattle.page.specs.Says.{stoppedTimerRow, timerFor}
 use Rattle.describe.specs.Models.{timerAt}
-use Rattle.describe.proofs.Filling.{filled, fill-none, fill-next, fill-all}
+use Rattle.laws.specs.Filling.{filled, fill-none, fill-next, fill-all}
 use Rattle.describe.proofs.timer_rows.Statement.{statement}
 use Rattle.describe.proofs.timer_rows.Tie as tie
 

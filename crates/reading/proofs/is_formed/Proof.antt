@@ -1,11 +1,10 @@
 -- `is_formed` meets its contract: the states, then the bytes. Assumes nothing.
 use mathlib.Core.Path.{sym, ap, _∙_}
 use mathlib.Core.Bool.{_&&_}
-use Rattle.laws.specs.Bools.{not-not}
 use Rattle.saved.specs.Record.{recordOf}
 use Rattle.page.specs.Says.{said}
 use Rattle.reading.specs.Rows.{sameBytes}
-use Rattle.reading.proofs.Testing.{denied}
+use Rattle.laws.specs.Bools.{denied, not-not}
 use borrow.Author.Needs.{needs}
 use Rattle.reading.proofs.is_formed.Statement.{statement}
 use Rattle.reading.proofs.is_formed.Tie as tie

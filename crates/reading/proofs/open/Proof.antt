@@ -1,6 +1,5 @@
 -- `open` meets its contract: counts that do not fit, or the tests that decide right form. Assumes nothing.
-use Rattle.laws.specs.Bools.{not-not}
-use Rattle.reading.proofs.Testing.{denied}
+use Rattle.laws.specs.Bools.{denied, not-not}
 use Rattle.reading.proofs.Forms.{opened-wrong, opened-right}
 use borrow.Author.Needs.{needs}
 use Rattle.reading.proofs.open.Statement.{statement}

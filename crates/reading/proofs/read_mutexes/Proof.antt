@@ -5,7 +5,7 @@ use native.Mathlib.Omega.{arith}
 use lib.ListN.{set}
 use Rattle.rules.specs.State.{noMutex}
 use Rattle.page.specs.Says.{mutexFor}
-use Rattle.page.proofs.Filling.{filled, fill-none, fill-next, fill-all}
+use Rattle.laws.specs.Filling.{filled, fill-none, fill-next, fill-all}
 use Rattle.reading.specs.Rows.{mutexOr}
 use borrow.Author.Needs.{needs}
 use Rattle.reading.proofs.read_mutexes.Statement.{statement}

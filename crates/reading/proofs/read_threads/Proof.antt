@@ -5,7 +5,7 @@ use native.Mathlib.Omega.{arith}
 use lib.ListN.{set}
 use Rattle.rules.specs.Page.{noRow}
 use Rattle.page.specs.Says.{threadFor}
-use Rattle.page.proofs.Filling.{filled, fill-none, fill-next, fill-all}
+use Rattle.laws.specs.Filling.{filled, fill-none, fill-next, fill-all}
 use Rattle.reading.specs.Rows.{threadOr}
 use borrow.Author.Needs.{needs}
 use Rattle.reading.proofs.read_threads.Statement.{statement}

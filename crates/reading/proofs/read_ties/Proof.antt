@@ -3,7 +3,7 @@ use Prim.Native.Nat.{_-_, _≤_}
 use mathlib.Core.Path.{_≡_, ap, _∙_}
 use native.Mathlib.Omega.{arith}
 use lib.ListN.{set}
-use Rattle.page.proofs.Filling.{filled, fill-none, fill-next, fill-all}
+use Rattle.laws.specs.Filling.{filled, fill-none, fill-next, fill-all}
 use Rattle.reading.specs.Rows.{tieOr}
 use borrow.Author.Needs.{needs}
 use Rattle.reading.proofs.read_ties.Statement.{statement}

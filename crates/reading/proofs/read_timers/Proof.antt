@@ -4,7 +4,7 @@ use mathlib.Core.Path.{_≡_, ap, _∙_}
 use native.Mathlib.Omega.{arith}
 use lib.ListN.{set}
 use Rattle.page.specs.Says.{timerFor, stoppedTimerRow}
-use Rattle.page.proofs.Filling.{filled, fill-none, fill-next, fill-all}
+use Rattle.laws.specs.Filling.{filled, fill-none, fill-next, fill-all}
 use Rattle.reading.specs.Rows.{timerOr}
 use borrow.Author.Needs.{needs}
 use Rattle.reading.proofs.read_timers.Statement.{statement}

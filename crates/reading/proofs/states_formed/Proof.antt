@@ -1,7 +1,6 @@
 -- `states_formed` meets its contract: the threads, then the timers. Assumes nothing.
 use mathlib.Core.Path.{sym, _∙_}
-use Rattle.laws.specs.Bools.{not-not}
-use Rattle.reading.proofs.Testing.{denied}
+use Rattle.laws.specs.Bools.{denied, not-not}
 use Rattle.reading.proofs.Forms.{thread-unformed, threads-are-formed}
 use borrow.Author.Needs.{needs}
 use Rattle.reading.proofs.states_formed.Statement.{statement}

@@ -4,12 +4,12 @@ use mathlib.Core.Path.{_≡_, sym, ap, _∙_}
 use mathlib.Core.List.{List}
 use native.Mathlib.Omega.{arith}
 use lib.ListN.{getD}
-use Rattle.laws.specs.Bools.{not-not}
+use Rattle.laws.specs.Bools.{denied, not-not}
 use Rattle.laws.specs.Lists.{tabulate}
 use Rattle.rules.specs.Page as rules
 use Rattle.rules.specs.Page.{eachRow, threadFormed}
 use Rattle.page.specs.Says.{threadSaid, noThreadRow}
-use Rattle.reading.proofs.Testing.{restPasses, all-left, passes, fails, none-left, denied}
+use Rattle.reading.proofs.Testing.{restPasses, all-left, passes, fails, none-left}
 use borrow.Author.Needs.{needs}
 use Rattle.reading.proofs.threads_formed.Statement.{statement}
 use Rattle.reading.proofs.threads_formed.Tie as tie

@@ -1,7 +1,6 @@
 -- `load` meets its contract: wrong form, not sound, or done. Assumes nothing.
 use mathlib.Core.Path.{sym, _∙_}
-use Rattle.laws.specs.Bools.{not-not}
-use Rattle.kernel.proofs.Sound.{denied}
+use Rattle.laws.specs.Bools.{denied, not-not}
 use Rattle.record.proofs.Loading.{wrong, unsound, done-load}
 use borrow.Author.Needs.{needs}
 use Rattle.record.proofs.load.Statement.{statement}

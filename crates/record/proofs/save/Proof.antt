@@ -2,8 +2,7 @@
 use Prim.Native.Nat.{_<_, _≤_}
 use mathlib.Core.Path.{refl, ap, _∙_, subst}
 use lib.ListN.{length}
-use Rattle.laws.specs.Bools.{not-not}
-use Rattle.kernel.proofs.Sound.{denied}
+use Rattle.laws.specs.Bools.{denied, not-not}
 use Rattle.record.proofs.Saving.{unsound, short, done-save}
 use borrow.Author.Needs.{needs}
 use Rattle.record.proofs.save.Statement.{statement}

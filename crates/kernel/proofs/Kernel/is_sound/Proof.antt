@@ -2,11 +2,11 @@
 use mathlib.Core.Path.{_≡_, sym, ap, _∙_, subst}
 use mathlib.Core.Logic.{_↔_}
 use mathlib.Core.Bool.{true, _&&_}
-use Rattle.laws.specs.Bools.{not-not}
+use Rattle.laws.specs.Bools.{denied, not-not}
 use Rattle.rules.specs.Page.{pageFormed, pageSound}
 use Rattle.page.specs.Says.{said}
 use Rattle.build.specs.Models.{buildModel}
-use Rattle.kernel.proofs.Sound.{denied, page-fails, engine-decides}
+use Rattle.kernel.proofs.Sound.{page-fails, engine-decides}
 use borrow.Author.Needs.{needs}
 use Rattle.kernel.proofs.Kernel.is_sound.Statement.{statement}
 use Rattle.kernel.proofs.Kernel.is_sound.Tie as tie

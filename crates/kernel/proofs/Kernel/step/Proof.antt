@@ -1,8 +1,7 @@
 -- `Kernel::step` meets its contract: refused, or the engine's step. Assumes nothing.
 use mathlib.Core.Path.{refl}
-use Rattle.laws.specs.Bools.{not-not}
+use Rattle.laws.specs.Bools.{denied, not-not}
 use Rattle.calls.specs.declared.Decoded.the-variants.{Taken}
-use Rattle.kernel.proofs.Sound.{denied}
 use Rattle.kernel.proofs.Promised.{unsound-steps, sound-steps}
 use borrow.Author.Needs.{needs}
 use Rattle.kernel.proofs.Kernel.step.Statement.{statement}

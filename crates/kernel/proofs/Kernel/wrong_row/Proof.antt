@@ -1,8 +1,7 @@
 -- `Kernel::wrong_row` meets its contract: 17, with the running thread of a sound kernel. Assumes nothing.
 use mathlib.Core.Path.{refl}
-use Rattle.laws.specs.Bools.{not-not}
+use Rattle.laws.specs.Bools.{denied, not-not}
 use Rattle.calls.specs.declared.Decoded.the-variants.{WrongForm}
-use Rattle.kernel.proofs.Sound.{denied}
 use Rattle.kernel.proofs.Promised.{unsound-steps, wrong-steps}
 use borrow.Author.Needs.{needs}
 use Rattle.kernel.proofs.Kernel.wrong_row.Statement.{statement}
