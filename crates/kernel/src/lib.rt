@@ -75,8 +75,8 @@ impl Kernel {
     pub fn step(mut self, call: Call) -> Stepped
         ensures { λ r. ⌜ Steps self (Taken call) r ⌝ }
     {
-        let sound = self.is_sound();
-        if !sound {
+        let right = self.is_sound();
+        if !right {
             return self.refused(1);
         }
         let engine = self.engine;

@@ -11,7 +11,7 @@ use Rattle.calls.specs.declared.Call.the-variants.{Start, CreateThread, CreateM
 use Rattle.calls.specs.declared.Kind.{Kind}
 use Rattle.calls.specs.declared.Kind.the-variants.{OneShot, Periodic}
 use Rattle.rules.specs.Queues.{First, nobody, somebody, emptySet}
-use Rattle.rules.specs.State.{ready, forMutex, onCondition, TimerState, stopped, oneShot, periodic, Timer, Scheduler, State, noThread, stoppedTimer, thread, mutex, tied, withThreads, withMutexes, withTies, withStarted, withRows, own, tie, firstAt, arrive, depart}
+use Rattle.rules.specs.State.{ready, forMutex, onCondition, TimerState, stopped, oneShot, periodic, Timer, Scheduler, State, stoppedTimer, mutex, tied, withThreads, withMutexes, withTies, withStarted, withRows, own, tie, firstAt, arrive, depart}
 use Rattle.rules.specs.Next.{runFirst}
 
 -- ---- 2 to 4: creating; a new id is the number of those there are

@@ -1,4 +1,5 @@
--- Document 01's marked examples as one table: what the definitions show, and what the document says is seen.
+-- Document 01's marked examples of the calls, E2, E3 and E5 to E12, as one table: what the definitions show, and what the document says is seen.
+-- The crate examples has the whole table, with those of the record and of the wheel.
 -- Assumes nothing.
 use Prim.Native.Nat.{ℕ, zero, suc}
 use mathlib.Core.List.{List, [], _∷_, _++_}
@@ -101,7 +102,7 @@ table =
     ∷ record { shown = answer (from boot (alone 5 ++ (Acquire 0 ∷ []))); seen = 0 ∷ 255 ∷ 1 ∷ [] }
     -- E8 owner of ceilings 5 and 9 takes the 5 again; at count 255
     ∷ record { shown = countAndAnswer (from boot (alone 3 ++ (Acquire 0 ∷ Acquire 1 ∷ Acquire 0 ∷ []))); seen = 2 ∷ 0 ∷ 255 ∷ 1 ∷ [] }
-    ∷ record { shown = countAndAnswer (from boot (alone 3 ++ times 256 (Acquire 0))); seen = 255 ∷ 10 ∷ 255 ∷ 1 ∷ [] }
+    ∷ record { shown = countAndAnswer (from boot (alone 3 ++ (Acquire 0 ∷ Acquire 1 ∷ times 255 (Acquire 0)))); seen = 255 ∷ 10 ∷ 255 ∷ 1 ∷ [] }
     -- E9 tick, running 1, queue 2, 3, all base 4
     ∷ record { shown = runnerAndQueue 4 (from boot (three ++ (Tick ∷ []))); seen = 2 ∷ 3 ∷ 1 ∷ [] }
     -- E10 running 1, queue 2, both base 4; thread 3 created, base 7

@@ -9,7 +9,7 @@ use Rattle.laws.specs.Bits.{among}
 use Rattle.laws.specs.Lists.{tabulate}
 use Rattle.units.specs.Units.{outside}
 use Rattle.rules.specs.Queues.{QueueSet, queue}
-use Rattle.rules.specs.State.{Where, running, ready, forMutex, onCondition, same, Thread, Mutex, TimerState, stopped, oneShot, periodic, Timer, Rows, Sets, Scheduler, State, thread, at, priority, setAt}
+use Rattle.rules.specs.State.{Where, running, ready, forMutex, onCondition, same, Thread, Mutex, TimerState, stopped, oneShot, periodic, Timer, Rows, Scheduler, State, thread, at, priority, setAt}
 use Rattle.rules.specs.Sound.{all, each, clauses}
 
 -- ---- the rows of a page

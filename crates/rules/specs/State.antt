@@ -1,9 +1,9 @@
 -- The state of the kernel: what the scheduler keeps (threads, mutexes, ties and the queues), the tick count and the timers.
 -- An id of 255 stands for none.
 -- Assumes nothing.
-use Prim.Native.Nat.{ℕ, zero, suc, _+_, max}
+use Prim.Native.Nat.{ℕ, _+_, max}
 use mathlib.Core.Bool.{Bool, true, false, cond}
-use mathlib.Core.List.{List, [], _∷_, _++_}
+use mathlib.Core.List.{List, [], _∷_}
 use lib.ListN.{getD, set}
 use lib.Dec.{eqb}
 use Rattle.rules.specs.Queues.{QueueSet, First, emptySet, toBack, toFront, firstLeaves, first}

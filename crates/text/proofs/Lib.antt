@@ -1,3 +1,4 @@
 pub mod Digits
 pub mod Putting
 pub mod Examples
+pub mod Collecting

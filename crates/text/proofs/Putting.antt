@@ -4,11 +4,11 @@ use Prim.Native.Nat.{ℕ, zero, suc, _+_, _-_, _/_, _%_, _^_, _<_, _≤_}
 use mathlib.Core.Path.{_≡_, refl, sym, ap, _∙_}
 use mathlib.Core.List.{List, [], _∷_, _++_, append-assoc}
 use native.Mathlib.Omega.{arith}
-use lib.ListN.{length, set, replicate, length-append, length-replicate, replicate-append-replicate}
-use lib.Seq.{set-at}
+use lib.ListN.{length, take, getD, set, replicate, length-append, length-replicate, replicate-append-replicate}
+use lib.Seq.{set-at, take-suc}
 use Rattle.calls.specs.declared.Answer.{Answer}
 use Rattle.text.specs.declared.Text.{Text}
-use Rattle.text.specs.Texts.{textOf, putModel, putAll, digits, lineBytes}
+use Rattle.text.specs.Texts.{textOf, putModel, putAll, digits, lineBytes, refusalBytes, refusedBytes, entryBytes}
 use Rattle.text.proofs.Digits.{one-digit, last-digit, few-digits}
 
 -- a byte in front of a text that has room
@@ -34,6 +34,14 @@ unfolding putAll
 put-append t [] ys = refl
 put-append t (x ∷ xs) ys = ap (λ u. putModel u x) (put-append t xs ys)
 
+-- the last of the first n bytes, and then those before it
+pub put-last : (t : Text) (l : List ℕ) (n : ℕ) → 0 < n → n ≤ length l → putAll t (take n l) ≡ putAll (putModel t (getD l (n - 1) 0)) (take (n - 1) l)
+unfolding putAll
+put-last t l zero h k = absurd (omega arith)
+put-last t l (suc n) h k =
+    let one : suc n - 1 ≡ n = omega arith in
+    rw (one, take-suc l n 0 (omega arith)) (put-append t (take n l) (getD l n 0 ∷ []))
+
 -- one digit, and then the digits of the tenth
 pub number-on : (t : Text) (n : ℕ) → 10 ≤ n → putAll t (digits n) ≡ putAll (putModel t (48 + n % 10)) (digits (n / 10))
 unfolding putAll
@@ -44,12 +52,33 @@ pub number-ends : (t : Text) (n : ℕ) → n < 10 → putAll t (digits n) ≡ pu
 unfolding putAll
 number-ends t n h = rw (one-digit n h)
 
+-- a line has at most 48 bytes
+pub line-fits : (n : ℕ) (answer : Answer) → n < 2 ^ 64 → answer .number < 256 → answer .given < 65536 → answer .running < 256 → length (lineBytes n answer) ≤ 48
+unfolding lineBytes
+line-fits n answer a b c d =
+    simp length-append (omega (arith, few-digits 19 n (omega arith), few-digits 2 (answer .number) (omega arith), few-digits 4 (answer .given) (omega arith), few-digits 2 (answer .running) (omega arith)))
+
 -- a line is put together from its end
 pub line-put : (n : ℕ) (answer : Answer) → n < 2 ^ 64 → answer .number < 256 → answer .given < 65536 → answer .running < 256
     → putAll (putModel (putAll (putModel (putAll (putModel (putAll (putModel (textOf []) 10) (digits (answer .running))) 32) (digits (answer .given))) 32) (digits (answer .number))) 32) (digits n)
     ≡ textOf (lineBytes n answer)
 unfolding lineBytes putAll
-line-put n answer a b c d =
-    let fits : length (lineBytes n answer) ≤ 48 =
-    simp length-append (omega (arith, few-digits 19 n (omega arith), few-digits 2 (answer .number) (omega arith), few-digits 4 (answer .given) (omega arith), few-digits 2 (answer .running) (omega arith))) in
-    sym (simp put-append) ∙ put-all (lineBytes n answer) fits
+line-put n answer a b c d = sym (simp put-append) ∙ put-all (lineBytes n answer) (line-fits n answer a b c d)
+
+-- the line of a refused record is put together from its end
+pub refusal-put : (answer : ℕ) → answer < 256
+    → putAll (putAll (putModel (textOf []) 10) (digits answer)) refusedBytes ≡ textOf (refusalBytes answer)
+unfolding refusalBytes putAll
+refusal-put answer h =
+    let fits : length (refusalBytes answer) ≤ 48 = simp length-append (omega (arith, few-digits 2 answer (omega arith))) in
+    sym (simp put-append) ∙ put-all (refusalBytes answer) fits
+
+-- the line of a record in a list is put together from its end
+pub entry-put : (n answer size : ℕ) → n < 2 ^ 64 → answer < 256 → size < 65536
+    → putAll (putModel (putAll (putModel (putAll (putModel (textOf []) 10) (digits size)) 32) (digits answer)) 32) (digits n)
+    ≡ textOf (entryBytes n answer size)
+unfolding entryBytes putAll
+entry-put n answer size a b c =
+    let fits : length (entryBytes n answer size) ≤ 48 =
+    simp length-append (omega (arith, few-digits 19 n (omega arith), few-digits 2 answer (omega arith), few-digits 4 size (omega arith))) in
+    sym (simp put-append) ∙ put-all (entryBytes n answer size) fits

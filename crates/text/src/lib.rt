@@ -1,10 +1,12 @@
-// The text of a run: the heading, and one line for each row, its number and the three numbers of its answer, in decimal.
+// The text of a run: the heading, and one line for each row, its number and the three numbers of its answer, in decimal; of a record that is
+// refused, and of a record in a list of them.
 // A text is put together from its last byte to its first, since a number gives its last digit first.
 use calls::Answer;
 ghost use mathlib.Core.Path.{_≡_};
 ghost use mathlib.Core.List.{[]};
-ghost use Prim.Native.Nat.{_+_, _%_};
-ghost use Rattle.text.specs.Texts.{textOf, putModel, putAll, digits, lineBytes, headingBytes};
+ghost use Prim.Native.Nat.{_+_, _%_, _≤_};
+ghost use lib.ListN.{length};
+ghost use Rattle.text.specs.Texts.{textOf, putModel, putAll, digits, lineBytes, headingBytes, refusalBytes, entryBytes, bytesOf, collected, usedAfter};
 
 // A short text: the bytes from a place on, with zeros in front of them.
 pub struct Text {
@@ -20,11 +22,24 @@ fn empty() -> Text
     Text { bytes, from: 48 }
 }
 
+// The place in front of a place, from 0 to 47; that in front of 0 is 47.
+fn place_in_front(from: usize) -> usize
+    ensures { λ r. ⌜ r ≡ (from % 48 + 47) % 48 ⌝ }
+{
+    if 48 < from {
+        return (from % 48 + 47) % 48;
+    }
+    if from == 0 {
+        return 47;
+    }
+    from - 1
+}
+
 // One byte more in front; a text of 48 bytes begins again at the end.
 fn put(text: Text, byte: u8) -> Text
     ensures { λ r. ⌜ r ≡ putModel text byte ⌝ }
 {
-    let from = (text.from % 48 + 47) % 48;
+    let from = place_in_front(text.from);
     let mut bytes = text.bytes;
     bytes[from] = byte;
     Text { bytes, from }
@@ -51,9 +66,23 @@ fn put_number(text: Text, n: u64) -> Text
     put(made, digit(rest))
 }
 
+// The bytes of a slice in front.
+fn put_bytes(text: Text, bytes: &[u8]) -> Text
+    ensures { λ r. ⌜ r ≡ putAll text (now (bytes .entry)) ⌝ }
+{
+    let mut made = text;
+    let mut left = bytes.len();
+    while 0 < left {
+        left -= 1;
+        let next = put(made, bytes[left]);
+        made = next;
+    }
+    made
+}
+
 // The line of row n: n and the three numbers of the answer, with a blank between, and a line feed.
 pub fn line(n: u64, answer: Answer) -> Text
-    ensures { λ r. ⌜ r ≡ textOf (lineBytes n answer) ⌝ }
+    ensures { λ r. ⌜ (r ≡ textOf (lineBytes n answer)) × (length (lineBytes n answer) ≤ 48) ⌝ }
 {
     let end = put(empty(), 10);
     let running = put_number(end, answer.running as u64);
@@ -71,4 +100,49 @@ pub fn heading() -> Text
 {
     let bytes = *b"\0\0\0\0\0\0\0\0\0\0\0\0\0\0\0\0\0\0\0\0\0\0line answer given running\n";
     Text { bytes, from: 22 }
+}
+
+// The line of a record that is refused: `record refused`, a blank, the answer, and a line feed.
+pub fn refusal(answer: u8) -> Text
+    ensures { λ r. ⌜ r ≡ textOf (refusalBytes answer) ⌝ }
+{
+    let end = put(empty(), 10);
+    let number = put_number(end, answer as u64);
+    put_bytes(number, b"record refused ")
+}
+
+// The line of record n: n, the answer to its load and the length of its save, with a blank between, and a line feed.
+pub fn entry(n: u64, answer: u8, length: u16) -> Text
+    ensures { λ r. ⌜ r ≡ textOf (entryBytes n answer length) ⌝ }
+{
+    let end = put(empty(), 10);
+    let third = put_number(end, length as u64);
+    let second = put(third, 32);
+    let number = put_number(second, answer as u64);
+    let first = put(number, 32);
+    put_number(first, n)
+}
+
+// A text after the used part of a buffer, and how much of it is used then. A text that the buffer has no room for is left out.
+pub fn collect(text: Text, used: usize, output: &mut [u8]) -> usize
+    ensures { λ r. ⌜ (r ≡ usedAfter (now (output .entry)) used (bytesOf text)) × (now (output .exit) ≡ collected (now (output .entry)) used (bytesOf text)) ⌝ }
+{
+    let bytes = text.bytes;
+    let from = text.from;
+    if 48 < from {
+        return used;
+    }
+    let size = 48 - from;
+    if output.len() < size {
+        return used;
+    }
+    if output.len() - size < used {
+        return used;
+    }
+    let mut i: usize = 0;
+    while i < size {
+        output[used + i] = bytes[from + i];
+        i += 1;
+    }
+    used + size
 }

@@ -9,9 +9,6 @@ Inv-loop input path run₀ turns₀ run turns = Unit {0}
 abbrev μ-loop : tie.MeasureT-loop
 μ-loop input path run₀ turns₀ run turns = turns
 
-boot-requires : tie.Need-boot-requires Inv-loop μ-loop
-boot-requires c κs = search needs
-
 loop-holds : tie.Need-loop-holds Inv-loop μ-loop
 loop-holds c = tt
 
@@ -39,7 +36,6 @@ run-all-spec =
     (tie.spec
     Inv-loop
     μ-loop
-    boot-requires
     loop-holds
     run-some-requires
     sub-turns

@@ -1,6 +1,7 @@
 -- `line` meets its contract: each call by its own, and the law that the bytes are those of the line. Assumes nothing.
+use Prim.Native.Nat.{_<_, _^_}
 use native.Mathlib.Omega.{arith}
-use Rattle.text.proofs.Putting.{line-put}
+use Rattle.text.proofs.Putting.{line-put, line-fits}
 use borrow.Author.Needs.{needs}
 use Rattle.text.proofs.line.Statement.{statement}
 use Rattle.text.proofs.line.Tie as tie
@@ -43,8 +44,15 @@ put-number-requires-4 c κs = search needs
 
 returns : tie.Need-returns
 returns c =
-    rw (c .put-number4 .ensures, c .before .put4 .ensures, c .before .before .put-number3 .ensures, c .before .before .before .before .put3 .ensures, c .before .before .before .before .before .put-number2 .ensures, c .before .before .before .before .before .before .before .put2 .ensures, c .before .before .before .before .before .before .before .before .put-number .ensures, c .before .before .before .before .before .before .before .before .before .before .put .ensures, c .before .before .before .before .before .before .before .before .before .before .before .empty .ensures)
-    (line-put (c .before .before .before .before .before .before .before .before .before .before .before .before .args .n) (c .before .before .before .before .before .before .before .before .before .before .before .before .args .answer) (omega (arith, c .before .before .before .before .before .before .before .before .before .before .before .before .fits .n)) (omega (arith, c .before .before .before .struct-known3 .given)) (omega (arith, c .before .before .before .before .before .before .struct-known2 .given)) (omega (arith, c .before .before .before .before .before .before .before .before .before .struct-known .given)))
+    let given = c .before .before .before .before .before .before .before .before .before .before .before .before in
+    let number : given .args .answer .number < 256 = omega (arith, c .before .before .before .struct-known3 .given) in
+    let told : given .args .answer .given < 65536 = omega (arith, c .before .before .before .before .before .before .struct-known2 .given) in
+    let running : given .args .answer .running < 256 = omega (arith, c .before .before .before .before .before .before .before .before .before .struct-known .given) in
+    let n : given .args .n < 2 ^ 64 = omega (arith, given .fits .n) in (
+      rw (c .put-number4 .ensures, c .before .put4 .ensures, c .before .before .put-number3 .ensures, c .before .before .before .before .put3 .ensures, c .before .before .before .before .before .put-number2 .ensures, c .before .before .before .before .before .before .before .put2 .ensures, c .before .before .before .before .before .before .before .before .put-number .ensures, c .before .before .before .before .before .before .before .before .before .before .put .ensures, c .before .before .before .before .before .before .before .before .before .before .before .empty .ensures)
+          (line-put (given .args .n) (given .args .answer) n number told running),
+      line-fits (given .args .n) (given .args .answer) n number told running,
+    )
 
 pub line-spec : {M : Type 1} → statement M
 line-spec =

@@ -4,15 +4,15 @@ use borrow.Author.Needs.{needs}
 use Rattle.text.proofs.put.Statement.{statement}
 use Rattle.text.proofs.put.Tie as tie
 
-add-from : tie.Need-add-from
-add-from c = search needs
+place-in-front-requires : tie.Need-place-in-front-requires
+place-in-front-requires c κs = search needs
 
 array-write-bytes : tie.Need-array-write-bytes
 array-write-bytes c = search needs
 
 returns : tie.Need-returns
 unfolding putModel
-returns c = search needs
+returns c = rw (c .before .place-in-front .ensures)
 
 pub put-spec : {M : Type 1} → statement M
-put-spec = tie.close (tie.spec add-from array-write-bytes returns)
+put-spec = tie.close (tie.spec place-in-front-requires array-write-bytes returns)

@@ -1,0 +1,136 @@
+"""Tries the words of ./tehuamozo as a user would, from a folder that is not the repository's.
+
+    door.py
+
+The README's commands are among them. Expected texts are those of the examples, which come from the second program, and bytes written down from
+document 01. The last line is `N passed, M failed`; the exit status is 0 only if something ran and M is 0.
+"""
+
+from __future__ import annotations
+
+import subprocess
+import sys
+import tempfile
+import xml.etree.ElementTree as tree
+from pathlib import Path
+from typing import Callable, List, Tuple
+
+TOP = Path(__file__).resolve().parent.parent
+BOOT = bytes.fromhex("01000000000000001800 1C001C001C001C00 000000000000 0001FF00".replace(" ", ""))
+
+
+def door(room: Path, *words: str) -> subprocess.CompletedProcess[bytes]:
+    """One word of the door, from a folder of the user's."""
+    return subprocess.run([str(TOP / "tehuamozo"), *words], cwd=room, stdin=subprocess.DEVNULL, capture_output=True, check=False)
+
+
+def example(name: str, file: str) -> str:
+    """The path of a file of an example."""
+    return str(TOP / "examples" / name / file)
+
+
+def runs(room: Path) -> bool:
+    """The README's run command gives the example's answers."""
+    done = door(room, "run", example("short_read", "calls.rows"))
+    return done.returncode == 0 and done.stdout == Path(example("short_read", "expected.txt")).read_bytes()
+
+
+def runs_from_record(room: Path) -> bool:
+    """A run from a record writes the record that the second program writes."""
+    calls, start = example("wrap", "calls.rows"), example("wrap", "start.record")
+    done = door(room, "run", calls, start, "end.record")
+    second = [sys.executable, str(TOP / "reference" / "run.py"), calls, start, str(room / "second.record")]
+    text = subprocess.run(second, capture_output=True, check=True).stdout
+    return done.stdout == text and (room / "end.record").read_bytes() == (room / "second.record").read_bytes()
+
+
+def rows_and_show(room: Path) -> bool:
+    """A text makes the example's rows, and the rows shown make themselves again."""
+    made = door(room, "rows", example("ring", "calls.txt"), "-o", "ring.rows")
+    same = (room / "ring.rows").read_bytes() == Path(example("ring", "calls.rows")).read_bytes()
+    shown = door(room, "show", "ring.rows")
+    (room / "ring.txt").write_bytes(shown.stdout)
+    again = door(room, "rows", "ring.txt", "-o", "again.rows")
+    back = (room / "again.rows").read_bytes() == (room / "ring.rows").read_bytes()
+    return made.returncode == 0 and same and shown.returncode == 0 and again.returncode == 0 and back
+
+
+def record_says(bytes_of: bytes, answer: str) -> Callable[[Path], bool]:
+    """A record gets this answer, and is saved again as it was if it loads."""
+
+    def tried(room: Path) -> bool:
+        (room / "one.record").write_bytes(bytes_of)
+        (room / "again.record").unlink(missing_ok=True)
+        done = door(room, "record", "one.record", "again.record")
+        saved = (room / "again.record").is_file()
+        right = saved and (room / "again.record").read_bytes() == bytes_of if answer == "0" else not saved
+        return ("answer %s" % answer).encode() in done.stdout and right
+
+    return tried
+
+
+def draws(room: Path) -> bool:
+    """The picture is well formed, and the same each time."""
+    first = door(room, "timeline", example("rotation", "calls.rows"), "-o", "one.svg")
+    again = door(room, "timeline", example("rotation", "calls.rows"), "-o", "two.svg")
+    tree.parse(room / "one.svg")
+    same = (room / "one.svg").read_bytes() == (room / "two.svg").read_bytes()
+    return first.returncode == 0 and again.returncode == 0 and same
+
+
+def empty_run(room: Path) -> bool:
+    """An empty file gives the heading alone."""
+    (room / "empty").write_bytes(b"")
+    return door(room, "run", "empty").stdout == b"line answer given running\n"
+
+
+def refuses(*words: str) -> Callable[[Path], bool]:
+    """Wrong use: exit status 2, something said on standard error, nothing on standard output."""
+
+    def tried(room: Path) -> bool:
+        done = door(room, *words)
+        return done.returncode == 2 and done.stdout == b"" and done.stderr != b""
+
+    return tried
+
+
+def trials() -> List[Tuple[str, Callable[[Path], bool]]]:
+    """All that is tried, with its name."""
+    base_1 = BOOT[:24] + b"\x01" + BOOT[25:]
+    return [
+        ("run", runs),
+        ("run from a record", runs_from_record),
+        ("rows and show", rows_and_show),
+        ("the boot record", record_says(BOOT, "0")),
+        ("the boot record cut to 27 bytes", record_says(BOOT[:27], "15")),
+        ("the boot record with base 1", record_says(base_1, "1")),
+        ("timeline", draws),
+        ("an empty file", empty_run),
+        ("no such file", refuses("run", "no_such_file")),
+        ("a folder", refuses("run", ".")),
+        ("two arguments", refuses("run", "one", "two")),
+        ("no such record", refuses("record", "no_such_file")),
+        ("no such word", refuses("jump")),
+        ("a timeline without its file", refuses("timeline", "one")),
+    ]
+
+
+def main() -> int:
+    """Try all, and count."""
+    passed = failed = 0
+    for name, tried in trials():
+        with tempfile.TemporaryDirectory() as folder:
+            try:
+                good = tried(Path(folder))
+            except (OSError, subprocess.SubprocessError, tree.ParseError) as trouble:
+                print("%s: %s" % (name, trouble))
+                good = False
+        passed, failed = passed + good, failed + (not good)
+        if not good:
+            print("failed: " + name)
+    print("%d passed, %d failed" % (passed, failed))
+    return 0 if passed and not failed else 1
+
+
+if __name__ == "__main__":
+    sys.exit(main())

@@ -1,0 +1,75 @@
+"""Holds the examples against both programs.
+
+    examples.py PROGRAM
+
+PROGRAM is the linked run program, target/bin/run. For each folder of
+examples/: the rows of calls.txt are those of calls.rows, the second program
+writes expected.txt, and so does PROGRAM; from start.record where there is
+one. The last line is `N passed, M failed`; the exit status is 0 only if
+something ran and M is 0, and 2 for wrong use.
+"""
+
+from __future__ import annotations
+
+import sys
+from pathlib import Path
+from typing import List, Sequence, Tuple
+
+from held import (
+    REFERENCE, TOP, Done, command_of, in_a_room, run_program, text_differs,
+)
+
+USAGE = "usage: examples.py PROGRAM"
+CHECKS = 3
+
+
+def words_of(example: Path) -> List[str]:
+    """What a run program is called with for an example."""
+    start = example / "start.record"
+    from_record = [str(start), "-"] if start.exists() else []
+    return [str(example / "calls.rows"), *from_record]
+
+
+def python(script: Path, *words: str) -> Done:
+    """Run a script of ours."""
+    return run_program([sys.executable, str(script), *words])
+
+
+def judge_example(command: Sequence[str], example: Path) -> int:
+    """Print what is wrong with an example; how many checks passed."""
+    text = str(example / "calls.txt")
+    rows = (example / "calls.rows").read_bytes()
+    expected = (example / "expected.txt").read_bytes()
+    words = words_of(example)
+    complaints = {
+        "rows of calls.txt":
+            text_differs(python(TOP / "words" / "rows.py", text), rows),
+        "the second program":
+            text_differs(python(REFERENCE / "run.py", *words), expected),
+        "the program":
+            text_differs(run_program([*command, *words]), expected),
+    }
+    for name, wrong in complaints.items():
+        print(f"{example.name}, {name}: {wrong or 'as expected'}")
+    return sum(not wrong for wrong in complaints.values())
+
+
+def compare(program: Path) -> Tuple[int, int]:
+    """Go through all examples; how many checks passed and failed."""
+    command = command_of(program)
+    examples = sorted((TOP / "examples").glob("*/calls.txt"))
+    passed = sum(judge_example(command, path.parent) for path in examples)
+    return passed, CHECKS * len(examples) - passed
+
+
+def main(words: Sequence[str]) -> int:
+    """Read the command line; the exit status."""
+    if len(words) != 1:
+        print(USAGE, file=sys.stderr)
+        return 2
+    program = Path(words[0]).resolve()
+    return in_a_room(lambda room: compare(program), 1)
+
+
+if __name__ == "__main__":
+    sys.exit(main(sys.argv[1:]))

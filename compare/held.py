@@ -1,0 +1,175 @@
+"""What the comparisons share: programs, the second program, and the count.
+
+Imported by the programs of this folder; it is no program. A program under
+test for x86-64 runs under the kit's emulator elsewhere, as `rt` runs it. The
+second program is the one in reference/.
+"""
+
+from __future__ import annotations
+
+import os
+import platform
+import shutil
+import subprocess
+import sys
+import tempfile
+from collections import Counter
+from concurrent.futures import ThreadPoolExecutor
+from pathlib import Path
+from typing import (
+    Callable, Dict, Iterable, List, NamedTuple, Optional, Sequence, Tuple,
+    TypeVar,
+)
+
+TOP = Path(__file__).resolve().parent.parent
+REFERENCE = TOP / "reference"
+LOADER = "ld-linux-x86-64.so.2"
+# Where an ELF file says for which processor it is, and x86-64's number there.
+PROCESSOR, X86_64 = slice(18, 20), b"\x3e\x00"
+# Long enough for the longest file under the emulator on a busy machine.
+SECONDS = 900
+AT_A_TIME = 2
+
+Case = TypeVar("Case")
+# Says in one line what is wrong with a case, or nothing.
+Judge = Callable[[Case], str]
+
+
+class Done(NamedTuple):
+    """How a program ended, without a status if too late; what it wrote."""
+
+    status: Optional[int]
+    text: bytes
+
+
+def find_toolchain() -> Path:
+    """The folder of the kit's compiler for this machine, from `rt`."""
+    rt = shutil.which("rt")
+    home = os.environ.get("RATTLE_HOME")
+    if rt is None and home is None:
+        raise OSError("rt is not found, and its emulator is needed here")
+    kit = Path(home) if home else Path(str(rt)).resolve().parent.parent
+    return kit / "on" / platform.machine() / "toolchain"
+
+
+def needs_emulator(program: Path) -> bool:
+    """Whether the program is for x86-64 and this machine is not."""
+    with program.open("rb") as stream:
+        head = stream.read(20)
+    for_x86_64 = head.startswith(b"\x7fELF") and head[PROCESSOR] == X86_64
+    return for_x86_64 and platform.machine() != "x86_64"
+
+
+def command_of(program: Path) -> List[str]:
+    """What runs the program: itself, or the kit's emulator and loader."""
+    if not needs_emulator(program):
+        return [str(program)]
+    tools = find_toolchain()
+    library = tools / "lib"
+    emulator = [str(tools / "bin" / "qemu-x86_64"), str(library / LOADER)]
+    return [*emulator, "--library-path", str(library), str(program)]
+
+
+def quiet_environment() -> Dict[str, str]:
+    """The environment without what would change the emulator."""
+    words = os.environ.items()
+    return {key: word for key, word in words if not key.startswith("QEMU_")}
+
+
+def run_program(words: Sequence[str]) -> Done:
+    """Run a program to its end, or until it has taken too long."""
+    try:
+        done = subprocess.run(
+            words, stdin=subprocess.DEVNULL, stdout=subprocess.PIPE,
+            env=quiet_environment(), timeout=SECONDS, check=False,
+        )
+    except subprocess.TimeoutExpired:
+        return Done(None, b"")
+    return Done(done.returncode, done.stdout)
+
+
+def run_second(script: str, *words: str) -> bytes:
+    """Run a script of the second program, which must end well; its text."""
+    done = subprocess.run(
+        [sys.executable, str(REFERENCE / script), *words],
+        stdout=subprocess.PIPE, check=True,
+    )
+    return done.stdout
+
+
+def generate(what: str, room: Path, seed: int, count: int) -> List[Path]:
+    """The first files of a seed, `calls` or `records`, in order."""
+    run_second("generate.py", what, str(seed), str(count), str(room))
+    return sorted(room.glob("*.bin"))
+
+
+def run_many(lines: Iterable[Tuple[str, ...]], room: Path) -> None:
+    """Run the second program on lines of CALLS, START, END and OUT."""
+    listed = room / "list"
+    listed.write_text("".join(" ".join(line) + "\n" for line in lines))
+    run_second("run.py", "--many", str(listed))
+
+
+def first_difference(got: bytes, want: bytes) -> str:
+    """The first line in which two texts differ."""
+    for one, other in zip(got.split(b"\n"), want.split(b"\n")):
+        if one != other:
+            return f"{one!r}, and {other!r} is wanted"
+    return "a text is cut short"
+
+
+def text_differs(done: Done, want: bytes) -> str:
+    """What is wrong with a program's end or text, or nothing."""
+    if done.status is None:
+        return f"took more than {SECONDS} seconds"
+    if done.status != 0:
+        return f"exit status {done.status}"
+    return "" if done.text == want else first_difference(done.text, want)
+
+
+def count_passed(judge: Judge[Case], cases: Sequence[Case]) -> int:
+    """Judge all cases, some at a time; prints what is wrong, in order."""
+    passed = 0
+    with ThreadPoolExecutor(AT_A_TIME) as pool:
+        for complaint in pool.map(judge, cases):
+            if complaint:
+                print(complaint)
+            else:
+                passed += 1
+    return passed
+
+
+def answers_in(text: bytes) -> List[int]:
+    """The answer numbers of a run's text, or that of its refused start."""
+    if text.startswith(b"record refused "):
+        return [int(text.split()[2])]
+    return [int(line.split()[1]) for line in text.splitlines()[1:]]
+
+
+def print_answers(met: Counter[int]) -> None:
+    """Print how often each answer number was met."""
+    print("met:", ", ".join(f"{key} {met[key]} times" for key in sorted(met)))
+
+
+def in_a_room(work: Callable[[Path], Tuple[int, int]], count: int) -> int:
+    """Do the work in a folder of its own, print the count; the exit status."""
+    with tempfile.TemporaryDirectory() as room:
+        try:
+            passed, failed = work(Path(room))
+        except (OSError, ValueError, subprocess.CalledProcessError) as error:
+            # The count must still be the last line.
+            print(error)
+            passed, failed = 0, count
+    print(f"{passed} passed, {failed} failed")
+    return 0 if passed > 0 and failed == 0 else 1
+
+
+def numbers_of(
+    words: Sequence[str], count: int, seed: int = 1
+) -> Optional[Tuple[int, int]]:
+    """COUNT and SEED from the end of a command line, or none if wrong."""
+    if len(words) > 2 or not all(w.isascii() and w.isdecimal() for w in words):
+        return None
+    given = [int(word) for word in words]
+    wanted = given + [count, seed][len(given):]
+    return wanted[0], wanted[1]

@@ -1,0 +1,98 @@
+-- What the lines of a run are, and what laying them into a buffer makes of it.
+-- Assumes nothing.
+use Prim.Native.Nat.{ℕ, zero, suc, _+_, _*_, _/_, _%_, _^_, _≤_}
+use mathlib.Core.Path.{_≡_}
+use mathlib.Core.Bool.{cond}
+use mathlib.Core.List.{List, [], _∷_, _++_}
+use lib.ListN.{length}
+use lib.Dec.{eqb}
+use Rattle.calls.specs.declared.Answer.{Answer}
+use Rattle.engine.specs.declared.Engine.{Engine}
+use Rattle.rows.specs.Rows.{rowModel, partModel, rowAt}
+use Rattle.text.specs.Texts.{lineBytes, headingBytes, laid, collected, usedAfter}
+use Rattle.lines.specs.declared.Lines.{Lines}
+
+-- ---- the lines
+
+-- the number of the line after line n
+abbrev pub next : ℕ → ℕ
+next n = (n + 1) % 2 ^ 64
+
+-- the lines of n rows from row i on: each row's answer by the engine that the rows before it leave
+unfoldable pub linesFrom : ℕ → ℕ → Engine → ℕ → List ℕ → List ℕ
+linesFrom zero i x last bytes = []
+linesFrom (suc n) i x last bytes =
+    let s = rowModel x (rowAt bytes (i * 8)) in
+    lineBytes (next last) (s .answer) ++ linesFrom n (suc i) (s .engine) (next last) bytes
+
+-- the lines of all whole rows
+abbrev pub rowLines : Engine → ℕ → List ℕ → List ℕ
+rowLines x last bytes = linesFrom (length bytes / 8) 0 x last bytes
+
+-- ---- laid into a buffer
+
+-- the engine that was reached, the lines so far, and the buffer that holds them
+pub record Written : Type 0 where
+  pub engine : Engine
+  pub lines : Lines
+  pub output : List ℕ
+
+-- the three as one
+abbrev pub at : Engine → Lines → List ℕ → Written
+at x lines output = record { engine = x; lines = lines; output = output }
+
+-- the lines with that of one answer more
+unfoldable pub addLine : Lines → Answer → List ℕ → Lines
+addLine lines answer output =
+    record { last = next (lines .last); used = usedAfter output (lines .used) (lineBytes (next (lines .last)) answer) }
+
+-- the buffer with the line of one answer more
+unfoldable pub addedTo : Lines → Answer → List ℕ → List ℕ
+addedTo lines answer output = collected output (lines .used) (lineBytes (next (lines .last)) answer)
+
+-- one row more
+unfoldable pub oneRow : Written → List ℕ → Written
+oneRow w row =
+    let s = rowModel (w .engine) row in
+    at (s .engine) (addLine (w .lines) (s .answer) (w .output)) (addedTo (w .lines) (s .answer) (w .output))
+
+-- n rows from row i on
+unfoldable pub rowsFrom : ℕ → ℕ → Written → List ℕ → Written
+rowsFrom zero i w bytes = w
+rowsFrom (suc n) i w bytes = rowsFrom n (suc i) (oneRow w (rowAt bytes (i * 8))) bytes
+
+-- all whole rows
+abbrev pub allRows : Written → List ℕ → Written
+allRows w bytes = rowsFrom (length bytes / 8) 0 w bytes
+
+-- a last row that is cut short: its line, and nothing else changes
+unfoldable pub cutRow : Written → List ℕ → Written
+cutRow w bytes =
+    let answer = partModel (w .engine) in
+    cond (eqb (length bytes % 8) 0) w (at (w .engine) (addLine (w .lines) answer (w .output)) (addedTo (w .lines) answer (w .output)))
+
+-- ---- one part of a run
+
+-- the lines before its rows: none, and of the first part the heading stands in the buffer
+unfoldable pub begunLines : ℕ → List ℕ → Lines
+begunLines last output = cond (eqb last 0) (record { last = last; used = usedAfter output 0 headingBytes }) (record { last = last; used = 0 })
+
+-- the buffer before its rows
+unfoldable pub begunOutput : ℕ → List ℕ → List ℕ
+begunOutput last output = cond (eqb last 0) (collected output 0 headingBytes) output
+
+-- the whole part: the heading or nothing, the lines of its rows in order, and that of a last row that is cut short
+abbrev pub partWritten : Engine → ℕ → List ℕ → List ℕ → Written
+partWritten x last bytes output = cutRow (allRows (at x (begunLines last output) (begunOutput last output)) bytes) bytes
+
+-- the heading of a first part, and nothing of one that follows
+unfoldable pub headOf : ℕ → List ℕ
+headOf last = cond (eqb last 0) headingBytes []
+
+-- in a buffer that has 48 bytes for each whole row and for the heading, the heading or nothing and the lines of the whole rows stand first, in order,
+-- and what is behind them is as it was
+pub record LinesStand (x : Engine) (last : ℕ) (bytes output : List ℕ) : Type 0 where
+  pub stand : 48 * (length bytes / 8 + 1) ≤ length output
+      → allRows (at x (begunLines last output) (begunOutput last output)) bytes .output ≡ laid output 0 (headOf last ++ rowLines x last bytes)
+  pub used : 48 * (length bytes / 8 + 1) ≤ length output
+      → allRows (at x (begunLines last output) (begunOutput last output)) bytes .lines .used ≡ length (headOf last ++ rowLines x last bytes)

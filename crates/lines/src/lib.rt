@@ -1,0 +1,99 @@
+// The text of one part of a run, laid into a buffer: the heading, and one line for each row's answer.
+use calls::Answer;
+use engine::Engine;
+use rows::part_row;
+use rows::row_at;
+use rows::step_row;
+use std::num::wrapping_add_u64;
+use text::collect;
+use text::heading;
+use text::line;
+ghost use mathlib.Core.Path.{_≡_};
+ghost use Prim.Native.Nat.{_≤_, _*_, _/_};
+ghost use lib.ListN.{length};
+ghost use Rattle.text.specs.Texts.{lineBytes};
+ghost use Rattle.lines.specs.Output.{next, addLine, addedTo, at, allRows, rowLines, cutRow, begunLines, begunOutput, partWritten, LinesStand};
+
+// Lines that are collected: the number of the last one, and how much of the buffer is used.
+pub struct Lines {
+    pub last: u64,
+    pub used: usize,
+}
+
+// The engine after some rows, and their lines.
+pub struct Answered {
+    pub engine: Engine,
+    pub lines: Lines,
+}
+
+// The line of one answer more.
+fn add_line(lines: Lines, answer: Answer, output: &mut [u8]) -> Lines
+    ensures { λ r. ⌜ (r ≡ addLine lines answer (now (output .entry))) × (now (output .exit) ≡ addedTo lines answer (now (output .entry))) × (length (lineBytes (next (lines .last)) answer) ≤ 48) ⌝ }
+{
+    let last = wrapping_add_u64(lines.last, 1);
+    let text = line(last, answer);
+    let used = collect(text, lines.used, output);
+    Lines { last, used }
+}
+
+// The lines of the whole rows, in order.
+fn answer_rows(engine: Engine, lines: Lines, bytes: &[u8], output: &mut [u8]) -> Answered
+    ensures { λ r. ⌜ at (r .engine) (r .lines) (now (output .exit)) ≡ allRows (at engine lines (now (output .entry))) (now (bytes .entry)) ⌝ }
+    ensures { λ r. ⌜ length (rowLines engine (lines .last) (now (bytes .entry))) ≤ 48 * (length (now (bytes .entry)) / 8) ⌝ }
+{
+    let rows = bytes.len() / 8;
+    let mut reached = engine;
+    let mut made = lines;
+    let mut i: usize = 0;
+    while i < rows {
+        let row = row_at(bytes, i * 8);
+        let stepped = step_row(reached, row);
+        let next = stepped.engine;
+        reached = next;
+        let longer = add_line(made, stepped.answer, output);
+        made = longer;
+        i += 1;
+    }
+    Answered {
+        engine: reached,
+        lines: made,
+    }
+}
+
+// The lines of all rows, and of a last one that is cut short.
+fn answer_all(engine: Engine, lines: Lines, bytes: &[u8], output: &mut [u8]) -> Answered
+    ensures { λ r. ⌜ at (r .engine) (r .lines) (now (output .exit)) ≡ cutRow (allRows (at engine lines (now (output .entry))) (now (bytes .entry))) (now (bytes .entry)) ⌝ }
+    ensures { λ r. ⌜ length (rowLines engine (lines .last) (now (bytes .entry))) ≤ 48 * (length (now (bytes .entry)) / 8) ⌝ }
+{
+    let whole = answer_rows(engine, lines, bytes, output);
+    if bytes.len() % 8 == 0 {
+        return whole;
+    }
+    let reached = whole.engine;
+    let answer = part_row(reached);
+    let made = add_line(whole.lines, answer, output);
+    Answered {
+        engine: reached,
+        lines: made,
+    }
+}
+
+// The lines of a run's beginning: none, after the heading; of a part that follows, none yet.
+fn begin(last: u64, output: &mut [u8]) -> Lines
+    ensures { λ r. ⌜ (r ≡ begunLines last (now (output .entry))) × (now (output .exit) ≡ begunOutput last (now (output .entry))) ⌝ }
+{
+    if last == 0 {
+        let used = collect(heading(), 0, output);
+        return Lines { last, used };
+    }
+    Lines { last, used: 0 }
+}
+
+// The text of one part of a run, first in the buffer: the heading if it is the first part, and the lines of its rows.
+pub fn answer_part(engine: Engine, last: u64, bytes: &[u8], output: &mut [u8]) -> Answered
+    ensures { λ r. ⌜ at (r .engine) (r .lines) (now (output .exit)) ≡ partWritten engine last (now (bytes .entry)) (now (output .entry)) ⌝ }
+    ensures { λ r. ⌜ LinesStand engine last (now (bytes .entry)) (now (output .entry)) ⌝ }
+{
+    let begun = begin(last, output);
+    answer_all(engine, begun, bytes, output)
+}

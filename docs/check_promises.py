@@ -1,0 +1,144 @@
+"""Checks docs/PROMISES.md against the tree.
+
+    check_promises.py            says what is missing; last line `N passed, M failed`
+    check_promises.py --table    writes the table of public functions as the tree has it
+
+Functions of the library `files` speak to the system and are listed without one result. Each name in backticks in the first table has to exist in the crate that is named before it: a definition in specs/, a theorem in proofs/, a
+function in src/, an edit in must-fail/, or a file. Each public function of each library has to stand in the second table with its promise as
+the code has it, and no other.
+"""
+
+from __future__ import annotations
+
+import re
+import sys
+from pathlib import Path
+from typing import Dict, Iterator, List, Tuple
+
+TOP = Path(__file__).resolve().parent.parent
+PAGE = TOP / "docs" / "PROMISES.md"
+HEADING = "| Function | Promise | One result by |"
+EXCEPTIONS = {"reading::open": "`form`; the page is promised for right form alone, and load reads it then only"}
+OUTSIDE = "files"
+
+
+def crates() -> List[str]:
+    """The library crates of crates.txt, and the programs."""
+    lines = (TOP / "crates.txt").read_text(encoding="utf-8").splitlines()
+    return [line.split(":")[0] for line in lines if ":" in line]
+
+
+def texts(crate: str, folder: str, ending: str) -> str:
+    """All text of one kind of file of a crate."""
+    files = sorted((TOP / "crates" / crate / folder).rglob("*" + ending))
+    return "\n".join(file.read_text(encoding="utf-8") for file in files)
+
+
+def is_there(crate: str, name: str) -> bool:
+    """Whether a crate has a definition, a theorem, a function or an edit of this name."""
+    if (TOP / "crates" / crate / "must-fail" / (name + ".edit")).is_file():
+        return True
+    if (TOP / "crates" / crate / "specs" / (name + ".antt")).is_file():
+        return True
+    if (TOP / "crates" / crate / "proofs" / (name + ".antt")).is_file():
+        return True
+    last = name.split("::")[-1]
+    if re.search(r"\b(fn|struct|enum) %s\b" % re.escape(last), texts(crate, "src", ".rt")):
+        return True
+    said = r"^ *(pub |abbrev |unfoldable |record |data )*%s( :|[^\S\n]*\(| where| *:)" % re.escape(name)
+    return re.search(said, texts(crate, "specs", ".antt") + "\n" + texts(crate, "proofs", ".antt"), re.M) is not None
+
+
+def names_in(cell: str, known: List[str]) -> Iterator[Tuple[str, str]]:
+    """Each name in backticks of a cell, with the crate that is named before it."""
+    crate = ""
+    for word in re.finditer(r"`([^`]+)`|([a-z_]+)", cell):
+        if word.group(2) is not None:
+            crate = word.group(2) if word.group(2) in known else crate
+        else:
+            yield crate, word.group(1)
+
+
+def check_names(text: str) -> List[Tuple[str, bool]]:
+    """Each name of the first table, and whether it is there."""
+    known = crates()
+    results: List[Tuple[str, bool]] = []
+    for line in text.split(HEADING)[0].splitlines():
+        if not line.startswith("| ") or line.startswith("| Document 01"):
+            continue
+        for cell in line.strip("|").split("|")[1:]:
+            for crate, name in names_in(cell, known):
+                if "/" in name:
+                    found = (TOP / name).exists()
+                elif not crate:
+                    found = any(is_there(other, name) for other in known) or name in known
+                else:
+                    found = is_there(crate, name) or name in known
+                results.append(("%s `%s`" % (crate, name), found))
+    return results
+
+
+def functions_of(crate: str) -> Iterator[Tuple[str, str]]:
+    """Each public function of a crate with the text of its promise."""
+    source = texts(crate, "src", ".rt")
+    kind = ""
+    for part in re.finditer(r"^impl (\w+)|^( *)pub (?:extern \"C\" )?fn (\w+)\b(.*?)(?: \{\n|\n\2\{)", source, re.M | re.S):
+        if part.group(1):
+            kind = part.group(1)
+            continue
+        name = "%s::%s" % (kind, part.group(3)) if part.group(2) else part.group(3)
+        promises = re.findall(r"ensures[^{]*\{ λ [\w_]+\. (?:do )?⌜ (.*?) ⌝ \}", part.group(4), re.S)
+        yield "%s::%s" % (crate, name), "; ".join(" ".join(promise.split()) for promise in promises)
+
+
+def one_result(name: str, promise: str) -> str:
+    """By what any two results that a promise allows are equal."""
+    if name in EXCEPTIONS:
+        return EXCEPTIONS[name]
+    if name.startswith(OUTSIDE + "::"):
+        return "open: it speaks to the system, which decides"
+    if "Saves " in promise:
+        return "`saves-once`"
+    if "Steps " in promise:
+        return "`steps-once`"
+    if "↔" in promise:
+        return "`exactly-once`"
+    return "`equation-once`" if "≡" in promise else ""
+
+
+def table() -> List[str]:
+    """The table of public functions as the tree has it."""
+    lines = [HEADING, "|---|---|---|"]
+    for crate in crates():
+        if (TOP / "crates" / crate / "src" / "lib.rt").is_file():
+            for name, promise in functions_of(crate):
+                shown = promise.replace("|", "\\|")
+                said = "`%s`" % shown if shown else "none"
+                lines.append("| `%s` | %s | %s |" % (name, said, one_result(name, promise)))
+    return lines
+
+
+def main(arguments: List[str]) -> int:
+    """Write the table, or check the page."""
+    if arguments == ["--table"]:
+        print("\n".join(table()))
+        return 0
+    text = PAGE.read_text(encoding="utf-8")
+    results: Dict[str, bool] = dict(check_names(text))
+    held = set(text.splitlines())
+    for line in table()[2:]:
+        results[line] = line in held and not line.endswith("|  |")
+    known = set(table())
+    for line in text.split(HEADING)[-1].splitlines():
+        if line.startswith("| `"):
+            results["in the tree: " + line] = line in known
+    for name, good in results.items():
+        if not good:
+            print("not there: " + name)
+    failed = sum(1 for good in results.values() if not good)
+    print("%d passed, %d failed" % (len(results) - failed, failed))
+    return 0 if failed == 0 and results else 1
+
+
+if __name__ == "__main__":
+    sys.exit(main(sys.argv[1:]))
