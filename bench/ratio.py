@@ -1,4 +1,5 @@
 """The proved kernel against plain C on the stated mixes: nanoseconds per call and their ratio, both as x86-64 programs in one run.
+Then the run program against one of plain C on files of the same mixes: rows a second, reading and writing included.
 
 python3 bench/ratio.py [ROUNDS]. Each mix is measured ROUNDS times on each side, in turn, and the best of each side counts.
 """
@@ -7,6 +8,7 @@ import re
 import subprocess
 import sys
 import tempfile
+import time
 
 HERE = pathlib.Path(__file__).resolve().parent
 MIXES = ("rotate", "timers", "acquire", "pingpong", "broadcast")
@@ -45,10 +47,38 @@ def compare(plain: list[str], proved: list[str], mix: pathlib.Path, rounds: int)
     return f"{mix.name:<10} {best[0]:>10.1f} {best[1]:>10.1f} {best[1] / best[0]:>8.1f}"
 
 
+def timed(command: list[str], calls: pathlib.Path, out: pathlib.Path) -> float:
+    """Seconds that a run program takes for a file of calls; its text goes to a file."""
+    with out.open("wb") as text:
+        begun = time.perf_counter()
+        done = subprocess.run([*command, str(calls)], stdout=text, check=False)
+        took = time.perf_counter() - begun
+    if done.returncode != 0:
+        sys.exit(f"ratio: {' '.join(command)} failed")
+    return took
+
+
+def compare_runs(plain: list[str], proved: list[str], mix: pathlib.Path, rounds: int) -> str:
+    """One line of the second table: rows a second of each side, best of all rounds; the texts of both sides agree."""
+    loop = pathlib.Path(f"{mix}.loop.bin").read_bytes()
+    calls = mix.with_suffix(".calls")
+    calls.write_bytes(pathlib.Path(f"{mix}.setup.bin").read_bytes() + loop * (CALLS * 8 // len(loop)))
+    best = [float("inf"), float("inf")]
+    texts = [mix.with_suffix(".plain"), mix.with_suffix(".proved")]
+    for _ in range(rounds):
+        for side, command in enumerate((plain, proved)):
+            best[side] = min(best[side], timed(command, calls, texts[side]))
+    if texts[0].read_bytes() != texts[1].read_bytes():
+        sys.exit(f"ratio: {mix.name}: the two run programs write different texts")
+    rows = calls.stat().st_size // 8
+    return f"{mix.name:<10} {rows / best[0]:>12,.0f} {rows / best[1]:>12,.0f} {best[1] / best[0]:>8.1f}"
+
+
 def main() -> None:
-    """Builds both sides and prints the table."""
+    """Builds both sides and prints the two tables."""
     rounds = int(sys.argv[1]) if len(sys.argv) > 1 else 5
     run(["rt", "staticlib", "rows"])
+    run(["rt", "check", "run"])
     with tempfile.TemporaryDirectory() as room:
         library = HERE.parent / "target" / "staticlib" / "librows.a"
         start = run([str(HERE / "build"), room, str(library)]).splitlines()[-1].split(f"{room}/x86-64/")[0].split()
@@ -57,6 +87,10 @@ def main() -> None:
         for name in MIXES:
             sides = [start + [f"{room}/x86-64/{program}"] for program in ("measure", "measure-proved")]
             print(compare(sides[0], sides[1], pathlib.Path(room) / "mixes" / name, rounds), flush=True)
+        print(f"\n{'run':<10} {'C, rows/s':>12} {'run, rows/s':>12} {'ratio':>8}")
+        for name in MIXES:
+            programs = [start + [f"{room}/x86-64/run"], start + [str(HERE.parent / "target" / "bin" / "run")]]
+            print(compare_runs(programs[0], programs[1], pathlib.Path(room) / "mixes" / name, rounds), flush=True)
 
 
 if __name__ == "__main__":
