@@ -8,14 +8,24 @@ document 01. The last line is `N passed, M failed`; the exit status is 0 only if
 
 from __future__ import annotations
 
+import os
+import pty
+import re
+import select
+import signal
 import subprocess
 import sys
 import tempfile
+import time
 import xml.etree.ElementTree as tree
 from pathlib import Path
 from typing import Callable, List, Tuple
 
 TOP = Path(__file__).resolve().parent.parent
+# Long enough for any wait here, on a busy machine and under the emulator.
+SECONDS = 300
+# Longer than it takes until progress is said, once the run program writes.
+A_WHILE = 3
 BOOT = bytes.fromhex("01000000000000001800 1C001C001C001C00 000000000000 0001FF00".replace(" ", ""))
 
 
@@ -84,6 +94,79 @@ def empty_run(room: Path) -> bool:
     return door(room, "run", "empty").stdout == b"line answer given running\n"
 
 
+def long_run(room: Path, stdout: int, stderr: int) -> Tuple[subprocess.Popen[bytes], bytes]:
+    """A run of 100,003 rows, the last cut short, and its text. It stands still while that is not read, so it lasts as long as a trial wants."""
+    rows = [b"\x02\x04", b"\x01", *[b"\x0d"] * 100_000]
+    (room / "long.rows").write_bytes(b"".join(row.ljust(8, b"\0") for row in rows) + b"\x0d")
+    lines = ["line answer given running", "1 0 1 255", "2 0 255 1"]
+    lines += ["%d 0 0 1" % n for n in range(3, 100_003)] + ["100003 17 255 1", ""]
+    words = [str(TOP / "tehuamozo"), "run", "long.rows"]
+    run = subprocess.Popen(words, cwd=room, stdin=subprocess.DEVNULL, stdout=stdout, stderr=stderr, start_new_session=True)
+    return run, "\n".join(lines).encode()
+
+
+def read_on(file: int, so_far: bytes, until: bytes) -> bytes:
+    """What is read from a pipe or a terminal until something is in it, or to its end where nothing else is waited for."""
+    end = time.monotonic() + SECONDS
+    while (not until or until not in so_far) and select.select([file], [], [], max(0.0, end - time.monotonic()))[0]:
+        try:
+            more = os.read(file, 65_536)
+        except OSError:
+            break  # the other side of a terminal is closed
+        if not more:
+            break
+        so_far += more
+    return so_far
+
+
+def plain_for_a_pipe(room: Path) -> bool:
+    """With standard error a pipe, a long run writes its text and nothing else."""
+    run, text = long_run(room, subprocess.PIPE, subprocess.PIPE)
+    select.select([run.stdout], [], [], SECONDS)
+    time.sleep(A_WHILE)
+    done = run.communicate(timeout=SECONDS)
+    return run.returncode == 0 and done == (text, b"")
+
+
+def plain_on_one_terminal(room: Path) -> bool:
+    """With both outputs on one terminal, a long run writes its text and nothing else."""
+    screen, line = pty.openpty()
+    run, text = long_run(room, line, line)
+    os.close(line)
+    select.select([screen], [], [], SECONDS)
+    time.sleep(A_WHILE)
+    said = read_on(screen, b"", b"")
+    os.close(screen)
+    return run.wait(SECONDS) == 0 and said == text.replace(b"\n", b"\r\n")
+
+
+def tells_a_terminal(room: Path) -> bool:
+    """With standard error alone on a terminal, a long run says its share on one line, which it clears, and writes the same text."""
+    screen, line = pty.openpty()
+    run, text = long_run(room, subprocess.PIPE, line)
+    os.close(line)
+    said = read_on(screen, b"", b"%")
+    written = run.communicate(timeout=SECONDS)[0]
+    said = read_on(screen, said, b"")
+    os.close(screen)
+    form = rb"(\rtehuamozo: \d+% of the calls *)+\r *\r"
+    return run.returncode == 0 and written == text and re.fullmatch(form, said) is not None
+
+
+def stops_when_interrupted(room: Path) -> bool:
+    """An interrupt ends a run whose progress is shown: the line is cleared, and the program that was started writes no more."""
+    screen, line = pty.openpty()
+    run, text = long_run(room, subprocess.PIPE, line)
+    os.close(line)
+    said = read_on(screen, b"", b"%")
+    os.killpg(run.pid, signal.SIGINT)
+    written = run.communicate(timeout=SECONDS)[0]
+    said = read_on(screen, said, b"")
+    os.close(screen)
+    cleared = b"%" in said and said.endswith(b" \r")
+    return run.returncode == 130 and len(written) < len(text) and text.startswith(written) and cleared
+
+
 def refuses(*words: str) -> Callable[[Path], bool]:
     """Wrong use: exit status 2, something said on standard error, nothing on standard output."""
 
@@ -106,6 +189,10 @@ def trials() -> List[Tuple[str, Callable[[Path], bool]]]:
         ("the boot record with base 1", record_says(base_1, "1")),
         ("timeline", draws),
         ("an empty file", empty_run),
+        ("a long run with its messages to a pipe", plain_for_a_pipe),
+        ("a long run with all on one terminal", plain_on_one_terminal),
+        ("a long run with its messages to a terminal", tells_a_terminal),
+        ("a long run that is interrupted", stops_when_interrupted),
         ("no such file", refuses("run", "no_such_file")),
         ("a folder", refuses("run", ".")),
         ("two arguments", refuses("run", "one", "two")),

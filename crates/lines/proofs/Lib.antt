@@ -1,2 +1,4 @@
 pub mod Turning
 pub mod Order
+pub mod Block
+pub mod Meaning

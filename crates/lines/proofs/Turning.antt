@@ -1,8 +1,8 @@
 -- One row more: for the buffer and for the length of the lines.
 -- Assumes nothing.
-use Prim.Native.Nat.{ℕ, zero, suc, _+_, _*_, _-_, _/_, _%_, _<_, _≤_}
-use mathlib.Core.Path.{_≡_, refl, sym, ap, ap₂, _∙_}
-use mathlib.Core.List.{List, [], _∷_, _++_}
+use Prim.Native.Nat.{ℕ, suc, _+_, _*_, _-_, _/_, _%_, _<_, _≤_}
+use mathlib.Core.Path.{_≡_, refl, ap, ap₂, _∙_}
+use mathlib.Core.List.{List, _++_}
 use native.Mathlib.Nat.{sub-zero}
 use native.Mathlib.Numerals.{add-one}
 use native.Mathlib.Omega.{arith}
@@ -18,7 +18,7 @@ use Rattle.text.specs.declared.Text.{Text}
 use Rattle.text.specs.Texts.{lineBytes, headingBytes, textOf, bytesOf, collected, usedAfter}
 use Rattle.text.proofs.Collecting.{bytes-of}
 use Rattle.lines.specs.declared.Lines.{Lines}
-use Rattle.lines.specs.Output.{next, linesFrom, Written, at, addLine, addedTo, oneRow, rowsFrom, allRows, rowLines, cutRow, begunLines, begunOutput, partWritten}
+use Rattle.lines.specs.Output.{next, cutLine, linesFrom, partLines, Written, at, addLine, addedTo, oneRow, rowsFrom, allRows, cutRow, begunLines, begunOutput, partWritten}
 
 -- the rows from row i on are row i and those after it
 rows-on : (n i : ℕ) (w : Written) (bytes : List ℕ) → i < n
@@ -74,9 +74,9 @@ end-rows n i w v bytes h e =
     let none : n - i ≡ 0 = omega arith in
     rw none at e
 
--- after the last turn
+-- after the last turn: a row that is cut short is left
 pub end-lines : (n i : ℕ) (x : Engine) (last : ℕ) (bytes : List ℕ) (whole : ℕ) → n ≤ i → i ≤ n
-    → whole ≤ 48 * i + length (linesFrom (n - i) i x last bytes) → whole ≤ 48 * n
+    → whole ≤ 48 * i + length (linesFrom (n - i) i x last bytes) → whole ≤ 48 * n + length (cutLine x last bytes)
 unfolding linesFrom
 end-lines n i x last bytes whole h k e =
     let none : n - i ≡ 0 = omega arith in
@@ -104,6 +104,24 @@ cut-one x m o v bytes a m′ o′ h e f g k =
     let made : at x m′ o′ ≡ cutRow (at x m o) bytes = unfold cutRow in (rw (ne-eqb (length bytes % 8) 0 h, g, k, f)) in
     made ∙ ap (λ u. cutRow u bytes) e
 
+-- no row is cut short: there is no line for it
+pub short-none : (x : Engine) (last : ℕ) (bytes : List ℕ) (whole : ℕ) → length bytes % 8 ≡ 0
+    → whole ≤ 48 * (length bytes / 8) + length (cutLine x last bytes) → whole ≤ 48 * (length bytes / 8 + 1)
+unfolding cutLine
+short-none x last bytes whole h e =
+    let f = rw (eq-eqb (length bytes % 8) 0 h) at e in
+    omega arith
+
+-- a last row is cut short: its line has at most 48 bytes
+pub short-one : (x : Engine) (last : ℕ) (bytes : List ℕ) (a : Answer) (whole : ℕ) → (length bytes % 8 ≡ 0 → ⊥) → a ≡ partModel x
+    → length (lineBytes (next last) a) ≤ 48
+    → whole ≤ 48 * (length bytes / 8) + length (cutLine x last bytes) → whole ≤ 48 * (length bytes / 8 + 1)
+unfolding cutLine
+short-one x last bytes a whole h g short e =
+    let f = rw (ne-eqb (length bytes % 8) 0 h) at e in
+    let line = rw g at short in
+    omega arith
+
 -- the first part of a run begins with the heading
 pub begin-first : (last : ℕ) (o : List ℕ) (t : Text) (used : ℕ) (o′ : List ℕ) → last ≡ 0 → t ≡ textOf headingBytes
     → used ≡ usedAfter o 0 (bytesOf t) → o′ ≡ collected o 0 (bytesOf t)
@@ -125,8 +143,8 @@ pub part-made : (x : Engine) (last : ℕ) (bytes o₀ : List ℕ) (m : Lines) (o
 part-made x last bytes o₀ m o r f g e = e ∙ ap₂ (λ a b. cutRow (allRows (at x a b) bytes) bytes) f g
 
 -- a part's rows go on from the number that its beginning has
-pub part-short : (x : Engine) (last : ℕ) (bytes o : List ℕ) (m : Lines) → m ≡ begunLines last o → length (rowLines x (m .last) bytes) ≤ 48 * (length bytes / 8)
-    → length (rowLines x last bytes) ≤ 48 * (length bytes / 8)
+pub part-short : (x : Engine) (last : ℕ) (bytes o : List ℕ) (m : Lines) → m ≡ begunLines last o → length (partLines x (m .last) bytes) ≤ 48 * (length bytes / 8 + 1)
+    → length (partLines x last bytes) ≤ 48 * (length bytes / 8 + 1)
 part-short x last bytes o m e short =
     let same : m .last ≡ last = ap (λ (l : Lines). l .last) e ∙ begun-last last o in
     rw same at short

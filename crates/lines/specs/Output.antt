@@ -1,9 +1,8 @@
--- What the lines of a run are, and what laying them into a buffer makes of it.
+-- What the text of one part of a run is, and what laying it into a buffer makes of that.
 -- Assumes nothing.
 use Prim.Native.Nat.{ℕ, zero, suc, _+_, _*_, _/_, _%_, _^_, _≤_}
-use mathlib.Core.Path.{_≡_}
 use mathlib.Core.Bool.{cond}
-use mathlib.Core.List.{List, [], _∷_, _++_}
+use mathlib.Core.List.{List, [], _++_}
 use lib.ListN.{length}
 use lib.Dec.{eqb}
 use Rattle.calls.specs.declared.Answer.{Answer}
@@ -12,22 +11,47 @@ use Rattle.rows.specs.Rows.{rowModel, partModel, rowAt}
 use Rattle.text.specs.Texts.{lineBytes, headingBytes, laid, collected, usedAfter}
 use Rattle.lines.specs.declared.Lines.{Lines}
 
--- ---- the lines
+-- ---- the text of one part of a run
 
 -- the number of the line after line n
 abbrev pub next : ℕ → ℕ
 next n = (n + 1) % 2 ^ 64
 
--- the lines of n rows from row i on: each row's answer by the engine that the rows before it leave
+-- the heading of a first part, and nothing of one that follows
+unfoldable pub headOf : ℕ → List ℕ
+headOf last = cond (eqb last 0) headingBytes []
+
+-- where the bytes end in a row that is cut short, its line, with 17; else nothing
+unfoldable pub cutLine : Engine → ℕ → List ℕ → List ℕ
+cutLine x last bytes = cond (eqb (length bytes % 8) 0) [] (lineBytes (next last) (partModel x))
+
+-- the lines of n rows from row i on, each row's answer by the engine that the rows before it leave, and then that of a row that is cut short
 unfoldable pub linesFrom : ℕ → ℕ → Engine → ℕ → List ℕ → List ℕ
-linesFrom zero i x last bytes = []
+linesFrom zero i x last bytes = cutLine x last bytes
 linesFrom (suc n) i x last bytes =
     let s = rowModel x (rowAt bytes (i * 8)) in
     lineBytes (next last) (s .answer) ++ linesFrom n (suc i) (s .engine) (next last) bytes
 
--- the lines of all whole rows
-abbrev pub rowLines : Engine → ℕ → List ℕ → List ℕ
-rowLines x last bytes = linesFrom (length bytes / 8) 0 x last bytes
+-- the lines of a part: one for each whole row, and one more for a last row that is cut short
+abbrev pub partLines : Engine → ℕ → List ℕ → List ℕ
+partLines x last bytes = linesFrom (length bytes / 8) 0 x last bytes
+
+-- the text of a part: the heading if it is the first, and its lines
+abbrev pub partText : Engine → ℕ → List ℕ → List ℕ
+partText x last bytes = headOf last ++ partLines x last bytes
+
+-- the number of a part's last line: one more for each row, whole or cut short
+abbrev pub lastAfter : ℕ → List ℕ → ℕ
+lastAfter last bytes = (last + (length bytes + 7) / 8) % 2 ^ 64
+
+-- the engine after n rows from row i on
+unfoldable pub engineFrom : ℕ → ℕ → Engine → List ℕ → Engine
+engineFrom zero i x bytes = x
+engineFrom (suc n) i x bytes = engineFrom n (suc i) (rowModel x (rowAt bytes (i * 8)) .engine) bytes
+
+-- the engine after the whole rows; a row that is cut short changes nothing
+abbrev pub engineAfter : Engine → List ℕ → Engine
+engineAfter x bytes = engineFrom (length bytes / 8) 0 x bytes
 
 -- ---- laid into a buffer
 
@@ -71,7 +95,7 @@ cutRow w bytes =
     let answer = partModel (w .engine) in
     cond (eqb (length bytes % 8) 0) w (at (w .engine) (addLine (w .lines) answer (w .output)) (addedTo (w .lines) answer (w .output)))
 
--- ---- one part of a run
+-- ---- one part in a buffer
 
 -- the lines before its rows: none, and of the first part the heading stands in the buffer
 unfoldable pub begunLines : ℕ → List ℕ → Lines
@@ -85,14 +109,12 @@ begunOutput last output = cond (eqb last 0) (collected output 0 headingBytes) ou
 abbrev pub partWritten : Engine → ℕ → List ℕ → List ℕ → Written
 partWritten x last bytes output = cutRow (allRows (at x (begunLines last output) (begunOutput last output)) bytes) bytes
 
--- the heading of a first part, and nothing of one that follows
-unfoldable pub headOf : ℕ → List ℕ
-headOf last = cond (eqb last 0) headingBytes []
+-- a buffer that has room for a part whatever its answers are: 48 bytes for the heading, for each whole row and for one that is cut short
+abbrev pub Room : List ℕ → List ℕ → Type 0
+Room bytes output = 48 * (length bytes / 8 + 2) ≤ length output
 
--- in a buffer that has 48 bytes for each whole row and for the heading, the heading or nothing and the lines of the whole rows stand first, in order,
--- and what is behind them is as it was
-pub record LinesStand (x : Engine) (last : ℕ) (bytes output : List ℕ) : Type 0 where
-  pub stand : 48 * (length bytes / 8 + 1) ≤ length output
-      → allRows (at x (begunLines last output) (begunOutput last output)) bytes .output ≡ laid output 0 (headOf last ++ rowLines x last bytes)
-  pub used : 48 * (length bytes / 8 + 1) ≤ length output
-      → allRows (at x (begunLines last output) (begunOutput last output)) bytes .lines .used ≡ length (headOf last ++ rowLines x last bytes)
+-- the part in a buffer that has room: its text stands first and what is behind it is as it was
+unfoldable pub partLaid : Engine → ℕ → List ℕ → List ℕ → Written
+partLaid x last bytes output =
+    let text = partText x last bytes in
+    at (engineAfter x bytes) (record { last = lastAfter last bytes; used = length text }) (laid output 0 text)

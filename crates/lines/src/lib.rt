@@ -1,4 +1,4 @@
-// The text of one part of a run, laid into a buffer: the heading, and one line for each row's answer.
+// The text of one part of a run, laid into a buffer: the heading, one line for each row's answer, and one for a last row that is cut short.
 use calls::Answer;
 use engine::Engine;
 use rows::part_row;
@@ -9,10 +9,10 @@ use text::collect;
 use text::heading;
 use text::line;
 ghost use mathlib.Core.Path.{_≡_};
-ghost use Prim.Native.Nat.{_≤_, _*_, _/_};
-ghost use lib.ListN.{length};
+ghost use Prim.Native.Nat.{_≤_, _+_, _*_, _/_};
+ghost use lib.ListN.{length, take};
 ghost use Rattle.text.specs.Texts.{lineBytes};
-ghost use Rattle.lines.specs.Output.{next, addLine, addedTo, at, allRows, rowLines, cutRow, begunLines, begunOutput, partWritten, LinesStand};
+ghost use Rattle.lines.specs.Output.{next, cutLine, partLines, partText, addLine, addedTo, at, allRows, cutRow, begunLines, begunOutput, partWritten, Room, partLaid};
 
 // Lines that are collected: the number of the last one, and how much of the buffer is used.
 pub struct Lines {
@@ -39,7 +39,7 @@ fn add_line(lines: Lines, answer: Answer, output: &mut [u8]) -> Lines
 // The lines of the whole rows, in order.
 fn answer_rows(engine: Engine, lines: Lines, bytes: &[u8], output: &mut [u8]) -> Answered
     ensures { λ r. ⌜ at (r .engine) (r .lines) (now (output .exit)) ≡ allRows (at engine lines (now (output .entry))) (now (bytes .entry)) ⌝ }
-    ensures { λ r. ⌜ length (rowLines engine (lines .last) (now (bytes .entry))) ≤ 48 * (length (now (bytes .entry)) / 8) ⌝ }
+    ensures { λ r. ⌜ length (partLines engine (lines .last) (now (bytes .entry))) ≤ 48 * (length (now (bytes .entry)) / 8) + length (cutLine (r .engine) (r .lines .last) (now (bytes .entry))) ⌝ }
 {
     let rows = bytes.len() / 8;
     let mut reached = engine;
@@ -63,7 +63,7 @@ fn answer_rows(engine: Engine, lines: Lines, bytes: &[u8], output: &mut [u8]) ->
 // The lines of all rows, and of a last one that is cut short.
 fn answer_all(engine: Engine, lines: Lines, bytes: &[u8], output: &mut [u8]) -> Answered
     ensures { λ r. ⌜ at (r .engine) (r .lines) (now (output .exit)) ≡ cutRow (allRows (at engine lines (now (output .entry))) (now (bytes .entry))) (now (bytes .entry)) ⌝ }
-    ensures { λ r. ⌜ length (rowLines engine (lines .last) (now (bytes .entry))) ≤ 48 * (length (now (bytes .entry)) / 8) ⌝ }
+    ensures { λ r. ⌜ length (partLines engine (lines .last) (now (bytes .entry))) ≤ 48 * (length (now (bytes .entry)) / 8 + 1) ⌝ }
 {
     let whole = answer_rows(engine, lines, bytes, output);
     if bytes.len() % 8 == 0 {
@@ -89,11 +89,32 @@ fn begin(last: u64, output: &mut [u8]) -> Lines
     Lines { last, used: 0 }
 }
 
-// The text of one part of a run, first in the buffer: the heading if it is the first part, and the lines of its rows.
+// The text of one part of a run, first in the buffer: the heading if it is the first part, and the lines of its rows. What a buffer that is too short
+// gets is promised too; one with 48 bytes for the heading, for each whole row and for one that is cut short gets the text.
 pub fn answer_part(engine: Engine, last: u64, bytes: &[u8], output: &mut [u8]) -> Answered
     ensures { λ r. ⌜ at (r .engine) (r .lines) (now (output .exit)) ≡ partWritten engine last (now (bytes .entry)) (now (output .entry)) ⌝ }
-    ensures { λ r. ⌜ LinesStand engine last (now (bytes .entry)) (now (output .entry)) ⌝ }
+    ensures { λ r. ⌜ (Room (now (bytes .entry)) (now (output .entry)) → at (r .engine) (r .lines) (now (output .exit)) ≡ partLaid engine last (now (bytes .entry)) (now (output .entry))) ⌝ }
 {
     let begun = begin(last, output);
     answer_all(engine, begun, bytes, output)
+}
+
+// The text of the bytes held of one read, in a buffer that always has room for it: 8,192 bytes are 1,024 rows, and the heading and their lines take at
+// most 49,200 bytes. The last promise is what lending the used bytes asks.
+pub fn answer_block(
+    engine: Engine,
+    last: u64,
+    bytes: &[u8; 8192],
+    held: usize,
+    output: &mut [u8; 65536],
+) -> Answered
+    ensures { λ r. ⌜ at (r .engine) (r .lines) (now (output .exit)) ≡ partLaid engine last (take held (now (bytes .entry))) (now (output .entry)) ⌝ }
+    ensures { λ r. ⌜ take (r .lines .used) (now (output .exit)) ≡ partText engine last (take held (now (bytes .entry))) ⌝ }
+    ensures { λ r. ⌜ (r .lines .used ≤ length (now (output .exit))) × (r .lines .used ≡ length (take (r .lines .used) (now (output .exit)))) ⌝ }
+{
+    let all = &bytes[..];
+    if 8192 < held {
+        return answer_part(engine, last, all, output);
+    }
+    answer_part(engine, last, &all[..held], output)
 }

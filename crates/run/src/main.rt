@@ -11,13 +11,12 @@ use files::fill;
 use files::open_input;
 use files::open_output;
 use files::start_named;
-use files::within;
 use files::write;
 use files::write_record;
 use libc::STDERR_FILENO;
 use libc::STDIN_FILENO;
 use libc::STDOUT_FILENO;
-use lines::answer_part;
+use lines::answer_block;
 
 // How far a run has come: the engine, the number of the last line, whether the run has ended, and whether it failed.
 struct Run {
@@ -47,10 +46,10 @@ fn run_some(run: Run, input: i32, path: &[u8]) -> Run {
     }
     let held = filled.held;
     let mut output = io::large_buffer();
-    let answered = answer_part(engine, run.last, &buffer[..held], &mut output);
+    let answered = answer_block(engine, run.last, &buffer, held, &mut output);
     let after = answered.engine;
     let lines = answered.lines;
-    let used = within(lines.used, &output);
+    let used = lines.used;
     let is_written = write(STDOUT_FILENO, b"standard output", &output[..used]);
     Run {
         engine: after,

@@ -3,7 +3,7 @@ use Rattle.lines.proofs.Turning.{turn, turn-short, begin-rows, begin-li
 use Rattle.lines.specs.Output.{at, linesFrom, rowsFrom}
 use lib.ListN.{length}
 use native.Mathlib.Omega.{arith}
-use mathlib.Core.Path.{_≡_, refl, sym, ap, _∙_}
+use mathlib.Core.Path.{_≡_, refl, _∙_}
 use Prim.Native.Nat.{_-_, _/_, _*_, _+_, _≤_, _<_}
 use borrow.Author.Needs.{needs}
 use Rattle.lines.proofs.answer_rows.Statement.{statement}
