@@ -173,3 +173,16 @@ def numbers_of(
     given = [int(word) for word in words]
     wanted = given + [count, seed][len(given):]
     return wanted[0], wanted[1]
+
+
+def compare_program(
+    words: Sequence[str], usage: str, default: int,
+    compare: Callable[[Path, Path, int, int], Tuple[int, int]],
+) -> int:
+    """Read PROGRAM, COUNT and SEED and compare; the exit status."""
+    numbers = numbers_of(words[1:], default)
+    if not words or numbers is None:
+        print(usage, file=sys.stderr)
+        return 2
+    program, (count, seed) = Path(words[0]).resolve(), numbers
+    return in_a_room(lambda room: compare(program, room, count, seed), count)

@@ -21,7 +21,7 @@ from pathlib import Path
 from typing import List, NamedTuple, Sequence, Tuple
 
 from held import (
-    command_of, generate, in_a_room, numbers_of, print_answers, run_program,
+    command_of, compare_program, generate, print_answers, run_program,
     run_second, text_differs,
 )
 
@@ -125,15 +125,5 @@ def compare(
     return passed, count - passed + failed
 
 
-def main(words: Sequence[str]) -> int:
-    """Read the command line; the exit status."""
-    numbers = numbers_of(words[1:], RECORDS)
-    if not words or numbers is None:
-        print(USAGE, file=sys.stderr)
-        return 2
-    program, (count, seed) = Path(words[0]).resolve(), numbers
-    return in_a_room(lambda room: compare(program, room, count, seed), count)
-
-
 if __name__ == "__main__":
-    sys.exit(main(sys.argv[1:]))
+    sys.exit(compare_program(sys.argv[1:], USAGE, RECORDS, compare))

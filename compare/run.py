@@ -21,7 +21,7 @@ from typing import Counter as CounterOf
 from typing import List, NamedTuple, Sequence, Tuple
 
 from held import (
-    answers_in, command_of, count_passed, generate, in_a_room, numbers_of,
+    answers_in, command_of, compare_program, count_passed, generate,
     print_answers, run_many, run_program, text_differs,
 )
 
@@ -115,15 +115,5 @@ def compare(
     return passed, count - passed + missing
 
 
-def main(words: Sequence[str]) -> int:
-    """Read the command line; the exit status."""
-    numbers = numbers_of(words[1:], FILES)
-    if not words or numbers is None:
-        print(USAGE, file=sys.stderr)
-        return 2
-    program, (count, seed) = Path(words[0]).resolve(), numbers
-    return in_a_room(lambda room: compare(program, room, count, seed), count)
-
-
 if __name__ == "__main__":
-    sys.exit(main(sys.argv[1:]))
+    sys.exit(compare_program(sys.argv[1:], USAGE, FILES, compare))

@@ -3,9 +3,9 @@
     check_promises.py            says what is missing; last line `N passed, M failed`
     check_promises.py --table    writes the table of public functions as the tree has it
 
-Functions of the library `files` speak to the system and are listed without one result. Each name in backticks in the first table has to exist in the crate that is named before it: a definition in specs/, a theorem in proofs/, a
+Each name in backticks in the first table has to exist in the crate that is named before it: a definition in specs/, a theorem in proofs/, a
 function in src/, an edit in must-fail/, or a file. Each public function of each library has to stand in the second table with its promise as
-the code has it, and no other.
+the code has it, and no other. Functions of the library `files` speak to the system, which decides their result where no equation is promised.
 """
 
 from __future__ import annotations
@@ -95,7 +95,7 @@ def one_result(name: str, promise: str) -> str:
     """By what any two results that a promise allows are equal."""
     if name in EXCEPTIONS:
         return EXCEPTIONS[name]
-    if name.startswith(OUTSIDE + "::"):
+    if name.startswith(OUTSIDE + "::") and "≡" not in promise:
         return "open: it speaks to the system, which decides"
     if "Saves " in promise:
         return "`saves-once`"

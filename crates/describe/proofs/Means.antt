@@ -5,8 +5,8 @@ use mathlib.Core.Path.{_≡_, refl, sym, ap, _∙_, subst}
 use mathlib.Core.Bool.{true, false, cond}
 use mathlib.Core.List.{List, map, flatten}
 use native.Mathlib.Omega.{arith}
-use lib.ListN.{length, getD, length-map, List·getD-map, List·getD-eq-default}
-use Rattle.laws.specs.Lists.{by-below, at, tabulate, length-tabulate, getD-tabulate, tabulate-below}
+use lib.ListN.{length, getD, length-map, List·getD-map}
+use Rattle.laws.specs.Lists.{at, tabulate, length-tabulate, getD-tabulate, tabulate-below}
 use Rattle.queue.specs.Models.{readModel, levelModel}
 use Rattle.queue.specs.Stands.{endsOf, linksOf, queuesOf}
 use Rattle.queue.proofs.Sets.{level-of}
@@ -17,13 +17,14 @@ use Rattle.wheel.specs.Wheels.{wheelOf}
 use Rattle.wheel.specs.Inside.{leftIn}
 use Rattle.wheel.proofs.Hanging.{left-hung}
 use Rattle.rules.specs.Queues.{queue}
-use Rattle.rules.specs.State.{Where, running, ready, forMutex, onCondition, same, Timer, Rows, Scheduler, State, noThread, stoppedTimer, thread, mutex, tied, timer, at as standsAt, priority, setAt}
+use Rattle.rules.specs.State.{Where, running, ready, forMutex, onCondition, same, Timer, Rows, Scheduler, State, stoppedTimer, thread, mutex, tied, timer, at as standsAt, priority, setAt}
 use Rattle.rules.specs.Sound.{timersSound, sound}
 use Rattle.rules.specs.Page.{noRow, stateCode, objectCode, timerCode, ahead, placeAt, rowAt, timerRowOf, pageOf}
 use Rattle.soundness.proofs.Rows.{Real}
 use Rattle.soundness.proofs.Facts.{Facts, Queued, Sound, low}
 use Rattle.soundness.proofs.Tested.{sound-facts}
 use Rattle.pages.proofs.Places.{stands-at}
+use Rattle.pages.proofs.FromState.{row-found}
 use Rattle.meaning.specs.Stands.{allSets, threadIn, threadsOf, schedulerOf}
 use Rattle.meaning.proofs.Rows.{row-read}
 use Rattle.meaning.proofs.Sides.{side, side-set}
@@ -89,17 +90,6 @@ module _ (h : Scheduler) (facts : Facts (h .rows)) (queued : Queued (h .rows) (h
       place : placeModel (schedulerOf h) (threadIn (h .rows) t) t ≡ placeAt h t
       place = unfold standsAt in (place-is (thread (h .rows) t .base) (priority (h .rows) t) t w (λ e. facts .real w t e (stands-at (h .rows) t)) (low facts t))
 
--- the page's row of a thread of a state, also outside the table
-row-read-back : (h : Scheduler) (t : ℕ) → getD (tabulate (length (h .rows .threads)) (rowAt h)) t noRow ≡ rowAt h t
-row-read-back h t = by-below t n (getD-tabulate n (rowAt h) t noRow) (λ l.
-    List·getD-eq-default (tabulate n (rowAt h)) noRow (rw (length-tabulate n (rowAt h)) l) ∙ sym (outside l))
-  where
-    n : ℕ
-    n = length (h .rows .threads)
-
-    outside : length (h .rows .threads) ≤ t → rowAt h t ≡ noRow
-    outside l = unfold standsAt same stateCode objectCode in (rw (List·getD-eq-default (h .rows .threads) noThread l))
-
 -- ---- timers
 
 -- the page's row of a timer, also outside the table
@@ -151,7 +141,7 @@ describe-means s e = λ i. record {
 
     threads : tabulate 32 (threadModel (schedulerOf (s .scheduler))) ≡ tabulate 32 (λ t. threadFor (getD (tabulate (length (s .scheduler .rows .threads)) (rowAt (s .scheduler))) t noRow))
     threads = tabulate-below 32 (threadModel (schedulerOf h)) (λ t. threadFor (getD (tabulate (length (k .threads)) (rowAt h)) t noRow))
-        (λ t l. row-is h (o .facts) (o .queued) t l ∙ ap threadFor (sym (row-read-back h t)))
+        (λ t l. row-is h (o .facts) (o .queued) t l ∙ ap threadFor (sym (row-found s t)))
 
     timers : tabulate 32 (timerAt (tabulate 32 (timerIn (s .timers))) (wheelOf (hungOf (s .count) (s .timers)))) ≡ tabulate 32 (λ j. timerFor (getD (map timerRowOf (s .timers)) j stoppedTimerRow))
     timers = tabulate-below 32 (timerAt (tabulate 32 (timerIn (s .timers))) (wheelOf (hungOf (s .count) (s .timers)))) (λ j. timerFor (getD (map timerRowOf (s .timers)) j stoppedTimerRow))

@@ -8,7 +8,8 @@ use record::load;
 use record::save;
 use text::Text;
 use text::refusal;
-ghost use Prim.Native.Nat.{_-_, _≤_};
+ghost use Prim.Native.Nat.{_-_, _≤_, min};
+ghost use mathlib.Core.Path.{_≡_};
 ghost use lib.ListN.{length};
 ghost use Rattle.io.specs.Counts.{Counts};
 
@@ -73,14 +74,15 @@ pub fn fill(input: i32, path: &[u8], buffer: &mut [u8]) -> Filled
     }
 }
 
-// How many of the bytes a length takes: all where it is larger.
-pub fn within(length: usize, bytes: &[u8]) -> usize
-    ensures { λ r. ⌜ Counts r (now (bytes .entry)) ⌝ }
+// How many of the bytes a count takes: all where it is larger.
+pub fn within(count: usize, bytes: &[u8]) -> usize
+    ensures counts { λ r. ⌜ Counts r (now (bytes .entry)) ⌝ }
+    ensures smaller { λ r. ⌜ r ≡ min count (length (now (bytes .entry))) ⌝ }
 {
-    if bytes.len() < length {
+    if bytes.len() < count {
         return bytes.len();
     }
-    length
+    count
 }
 
 // Writes all the bytes, or says that it fails; whether that was done.

@@ -94,7 +94,7 @@ module _ (h : Scheduler) (facts : Facts (h .rows)) (queued : Queued (h .rows) (h
 -- ---- the rows
 
 -- a row of the page, also outside the table
-row-found : (s : State) (t : ℕ) → threadRow (pageOf s) t ≡ rowAt (s .scheduler) t
+pub row-found : (s : State) (t : ℕ) → threadRow (pageOf s) t ≡ rowAt (s .scheduler) t
 unfolding pageOf
 row-found s t = by-below t n (getD-tabulate n (rowAt (s .scheduler)) t noRow) (λ l.
     List·getD-eq-default (tabulate n (rowAt (s .scheduler))) noRow (rw (length-tabulate n (rowAt (s .scheduler))) l) ∙ sym (outside l))

@@ -1,4 +1,4 @@
--- `within` meets its contract: the count lies within the bytes. Assumes nothing.
+-- `within` meets its contract: the count lies within the bytes, and is the smaller of the two. Assumes nothing.
 use mathlib.Core.Path.{sym}
 use native.Mathlib.Omega.{arith}
 use lib.Seq.{length-take-le}
@@ -6,10 +6,10 @@ use Rattle.files.proofs.within.Statement.{statement}
 use Rattle.files.proofs.within.Tie as tie
 
 returns : tie.Need-returns
-returns c = (omega arith, sym (length-take-le _ _ (omega arith)))
+returns c = ((omega arith, sym (length-take-le _ _ (omega arith))), omega arith)
 
 returns-2 : tie.Need-returns-2
-returns-2 c = (omega arith, sym (length-take-le _ _ (omega arith)))
+returns-2 c = ((omega arith, sym (length-take-le _ _ (omega arith))), omega arith)
 
 pub within-spec : {M : Type 1} → statement M
 within-spec = tie.close (tie.spec returns returns-2)
