@@ -40,7 +40,7 @@ use Rattle.book.proofs.Timers.{Timeless, leftAt, all-ticked, timeless-f
 use Rattle.book.proofs.Same.{Same, timersIn, timers-in, stopped-left}
 
 -- what is left to the rule of three: the same state and book, and, while started, what the choice of the next thread needs
-pub record Unsettled (e : State) (l : Book) : Type 0 where
+pub record BeforeNext (e : State) (l : Book) : Type 0 where
   pub same : Same e l
   pub turning : e .scheduler .rows .started ≡ true → Kept (e .scheduler) × Turned (e .scheduler .rows)
 
@@ -60,11 +60,11 @@ module _ {s : State} {b : Book} (x : Same s b) where
   timed ts xs e = record { alike = record { rows = x .alike .rows; marked = x .alike .marked }; count = x .count; timers = e }
 
   -- with what is left to the rule of three
-  unsettled : (g : Scheduler) (l : Book) → Left Turned (s .scheduler) g → Alike g l → Timeless b l → Unsettled (withScheduler s g) l
-  unsettled g l z a t = record { same = scheduled g l a t; turning = λ e. (z .kept, z .caller) }
+  before-next : (g : Scheduler) (l : Book) → Left Turned (s .scheduler) g → Alike g l → Timeless b l → BeforeNext (withScheduler s g) l
+  before-next g l z a t = record { same = scheduled g l a t; turning = λ e. (z .kept, z .caller) }
 
-  timed-unsettled : Sound s → (ts : List S.Timer) (xs : List Timer) → ts ≡ map (leftAt (b .count)) xs → Unsettled (E.withTimers s ts) (withTimers b xs)
-  timed-unsettled o ts xs e = record { same = timed ts xs e; turning = λ on. (kept o, turned-going (going o on)) }
+  timed-before-next : Sound s → (ts : List S.Timer) (xs : List Timer) → ts ≡ map (leftAt (b .count)) xs → BeforeNext (E.withTimers s ts) (withTimers b xs)
+  timed-before-next o ts xs e = record { same = timed ts xs e; turning = λ on. (kept o, turned-going (going o on)) }
 
 -- ---- 1
 
@@ -91,8 +91,8 @@ module _ {s : State} (o : Sound s) {b : Book} (x : Same s b) (off : s .scheduler
       first-started : N.runFirst (withRows h (withStarted (h .rows))) ≡ withRows (N.runFirst h) (withStarted (N.runFirst h .rows))
       first-started = unfold N.runFirst in (start-first h (firstAt h ready))
 
-  start-unsettled : Unsettled (withScheduler s (withRows (N.runFirst h) (withStarted (N.runFirst h .rows)))) (runFirst (nowStarted b))
-  start-unsettled = record {
+  start-before-next : BeforeNext (withScheduler s (withRows (N.runFirst h) (withStarted (N.runFirst h .rows)))) (runFirst (nowStarted b))
+  start-before-next = record {
     same = scheduled x (withRows (N.runFirst h) (withStarted (N.runFirst h .rows))) (runFirst (nowStarted b)) started-alike
         (let t = timeless-first (nowStarted b) in record { timers = t .timers; count = t .count });
     turning = λ e. (
@@ -111,22 +111,22 @@ within : (low high n : ℕ) → outside low high n ≡ false → (low ≤ n) × 
 within low high n e = (ltb-false n low (nor-left (ltb n low) (ltb high n) e), ltb-false high n (nor-right (ltb n low) (ltb high n) e))
 
 module _ {s : State} (o : Sound s) {b : Book} (x : Same s b) where
-  thread-unsettled : (p : ℕ) → length (s .scheduler .rows .threads) < 32 → 1 ≤ p → p ≤ 15 → Unsettled (withScheduler s (threadCreated (s .scheduler) p)) (createThread b p)
-  thread-unsettled p room some most = record {
+  thread-before-next : (p : ℕ) → length (s .scheduler .rows .threads) < 32 → 1 ≤ p → p ≤ 15 → BeforeNext (withScheduler s (threadCreated (s .scheduler) p)) (createThread b p)
+  thread-before-next p room some most = record {
     same = scheduled x (threadCreated (s .scheduler) p) (createThread b p) (alike-thread (x .alike) (kept o) p room (omega arith)) (unfold createThread in record { timers = refl; count = refl });
     turning = λ on. (kept-thread (kept o) p room some most, unfold threadCreated S.arrive in (turned-going (going-thread (s .scheduler .rows) p (o .facts) (going o (unfold threadCreated S.arrive S.stand in on)))));
   }
 
-  mutex-unsettled : (c : ℕ) → length (s .scheduler .rows .mutexes) < 16 → 1 ≤ c → c ≤ 15 → Unsettled (effect s (CreateMutex c)) (outcome b (CreateMutex c) .book)
+  mutex-before-next : (c : ℕ) → length (s .scheduler .rows .mutexes) < 16 → 1 ≤ c → c ≤ 15 → BeforeNext (effect s (CreateMutex c)) (outcome b (CreateMutex c) .book)
   unfolding effect outcome
-  mutex-unsettled c room some most = record {
+  mutex-before-next c room some most = record {
     same = record { alike = alike-mutex (x .alike) (kept o) c; count = x .count; timers = x .timers };
     turning = λ on. (kept-mutex (kept o) c room some most, unfold mutexCreated in (let g = going o (unfold mutexCreated in on) in turned-going (record { there = g .there; runs = g .runs; only = g .only })));
   }
 
-  condition-unsettled : length (s .scheduler .rows .ties) < 16 → Unsettled (effect s CreateCondition) (outcome b CreateCondition .book)
+  condition-before-next : length (s .scheduler .rows .ties) < 16 → BeforeNext (effect s CreateCondition) (outcome b CreateCondition .book)
   unfolding effect outcome
-  condition-unsettled room = record {
+  condition-before-next room = record {
     same = record { alike = alike-condition (x .alike) (kept o); count = x .count; timers = x .timers };
     turning = λ on. (kept-condition (kept o) room, unfold conditionCreated in (let g = going o (unfold conditionCreated in on) in turned-going (record { there = g .there; runs = g .runs; only = g .only })));
   }
@@ -153,9 +153,9 @@ module _ {s : State} (o : Sound s) {b : Book} (x : Same s b) (going-on : not (s 
   on : rows .started ≡ true
   on = not-false (rows .started) going-on
 
-  acquire-unsettled : (m : ℕ) → Clear (tests rows (s .timers) (Acquire m)) → Unsettled (withScheduler s (acquired (s .scheduler) m)) (acquire b m)
+  acquire-before-next : (m : ℕ) → Clear (tests rows (s .timers) (Acquire m)) → BeforeNext (withScheduler s (acquired (s .scheduler) m)) (acquire b m)
   unfolding tests
-  acquire-unsettled m c = unsettled x (acquired (s .scheduler) m) (acquire b m)
+  acquire-before-next m c = before-next x (acquired (s .scheduler) m) (acquire b m)
       (left-acquired (kept o) (going o on) m real (eqb-false caller 0 (c .1 .1 .0))
       (λ n. ltb-false (S.mutex rows m .ceiling) (S.priority rows caller)
       (second-fails (not (eqb (S.mutex rows m .owner) caller)) (ltb (S.mutex rows m .ceiling) (S.priority rows caller)) (c .1 .1 .1 .0) (rw (ne-eqb (S.mutex rows m .owner) caller n))))
@@ -165,9 +165,9 @@ module _ {s : State} (o : Sound s) {b : Book} (x : Same s b) (going-on : not (s 
       real : m < length (rows .mutexes)
       real = leb-false (length (rows .mutexes)) m (c .1 .0)
 
-  release-unsettled : (m : ℕ) → Clear (tests rows (s .timers) (Release m)) → Unsettled (withScheduler s (released (s .scheduler) m)) (release b m)
+  release-before-next : (m : ℕ) → Clear (tests rows (s .timers) (Release m)) → BeforeNext (withScheduler s (released (s .scheduler) m)) (release b m)
   unfolding tests
-  release-unsettled m c = unsettled x (released (s .scheduler) m) (release b m) (left-turned (left-released (kept o) (going o on) m real mine))
+  release-before-next m c = before-next x (released (s .scheduler) m) (release b m) (left-turned (left-released (kept o) (going o on) m real mine))
       (alike-released (x .alike) (kept o) (going o on) m real mine) (timeless-release b m)
     where
       real : m < length (rows .mutexes)
@@ -176,9 +176,9 @@ module _ {s : State} (o : Sound s) {b : Book} (x : Same s b) (going-on : not (s 
       mine : S.mutex rows m .owner ≡ caller
       mine = eqb-true (S.mutex rows m .owner) caller (not-false (eqb (S.mutex rows m .owner) caller) (c .1 .1 .0))
 
-  wait-unsettled : (d m : ℕ) → Clear (tests rows (s .timers) (Wait d m)) → Unsettled (withScheduler s (waited (s .scheduler) d m)) (wait b d m)
+  wait-before-next : (d m : ℕ) → Clear (tests rows (s .timers) (Wait d m)) → BeforeNext (withScheduler s (waited (s .scheduler) d m)) (wait b d m)
   unfolding tests
-  wait-unsettled d m c = unsettled x (waited (s .scheduler) d m) (wait b d m)
+  wait-before-next d m c = before-next x (waited (s .scheduler) d m) (wait b d m)
       (left-waited (kept o) (going o on) d m (eqb-false caller 0 (c .1 .1 .0)) there real mine
       (ltb-false 1 (S.mutex rows m .count) (nor-left (ltb 1 (S.mutex rows m .count)) (ltb 1 (S.owned (rows .mutexes) caller)) (c .1 .1 .1 .1 .0)))
       (ltb-false 1 (S.owned (rows .mutexes) caller) (nor-right (ltb 1 (S.mutex rows m .count)) (ltb 1 (S.owned (rows .mutexes) caller)) (c .1 .1 .1 .1 .0)))
@@ -196,15 +196,15 @@ module _ {s : State} (o : Sound s) {b : Book} (x : Same s b) (going-on : not (s 
 
   -- a signal, and as many as there are threads
   module _ (d : ℕ) (there : d < length (rows .ties)) where
-    signal-unsettled : Unsettled (withScheduler s (signalled (s .scheduler) d)) (signal b d .book)
-    signal-unsettled = unsettled x (signalled (s .scheduler) d) (signal b d .book) (left-turned (left-signalled (kept o) (going o on) d there))
+    signal-before-next : BeforeNext (withScheduler s (signalled (s .scheduler) d)) (signal b d .book)
+    signal-before-next = before-next x (signalled (s .scheduler) d) (signal b d .book) (left-turned (left-signalled (kept o) (going o on) d there))
         (alike-signalled (x .alike) (kept o) d there) (timeless-wake b d (highestEarliest b (S.onCondition d)))
 
     as-many : signals 32 b d ≡ signals (length (b .threads)) b d
     as-many = signals-enough b d (subst (λ n. n ≤ 32) (threads-alike (x .alike)) (o .facts .few))
 
-    broadcast-unsettled : Unsettled (withScheduler s (signalledTimes 32 (s .scheduler) d)) (signals (length (b .threads)) b d .book)
-    broadcast-unsettled = unsettled x (signalledTimes 32 (s .scheduler) d) (signals (length (b .threads)) b d .book) (left-turned (left-times 32 (kept o) (going o on) d there))
+    broadcast-before-next : BeforeNext (withScheduler s (signalledTimes 32 (s .scheduler) d)) (signals (length (b .threads)) b d .book)
+    broadcast-before-next = before-next x (signalledTimes 32 (s .scheduler) d) (signals (length (b .threads)) b d .book) (left-turned (left-times 32 (kept o) (going o on) d there))
         (subst (λ (q : Outcome). Alike (signalledTimes 32 (s .scheduler) d) (q .book)) as-many (alike-times 32 (x .alike) (kept o) (going o on) d there)) (timeless-signals (length (b .threads)) b d)
 
     broadcast-given : leavers 32 (s .scheduler) d ≡ signals (length (b .threads)) b d .given
@@ -214,9 +214,9 @@ module _ {s : State} (o : Sound s) {b : Book} (x : Same s b) (going-on : not (s 
   exist : AllBelow (length (rows .ties)) (dueConditions (timersIn b))
   exist = subst (λ ts. AllBelow (length (rows .ties)) (dueConditions ts)) (x .timers) (due-below rows (s .timers) (o .timers))
 
-  tick-unsettled : Unsettled (effect s Tick) (expireBelow (length (b .timers)) (nextTick b) .book)
+  tick-before-next : BeforeNext (effect s Tick) (expireBelow (length (b .timers)) (nextTick b) .book)
   unfolding effect
-  tick-unsettled = record {
+  tick-before-next = record {
     same = record {
       alike = subst (λ ts. Alike (signalledEach (s .scheduler) (dueConditions ts)) (expireBelow (length (b .timers)) (nextTick b) .book)) (sym (x .timers)) (tick-alike (x .alike) (kept o) (going o on) exist);
       count = ap nextCount (x .count) ∙ wrapped (b .count) ∙ ap (λ n. n % 4294967296) (sym (tick-count (x .alike) (kept o) (going o on) exist));
@@ -235,29 +235,29 @@ module _ {s : State} (o : Sound s) {b : Book} (x : Same s b) (going-on : not (s 
 -- ---- the thirteen calls
 
 module _ {s : State} (o : Sound s) {b : Book} (x : Same s b) where
-  pub call-unsettled : (call : Call) → Clear (tests (s .scheduler .rows) (s .timers) call) → Unsettled (effect s call) (outcome b call .book)
+  pub call-before-next : (call : Call) → Clear (tests (s .scheduler .rows) (s .timers) call) → BeforeNext (effect s call) (outcome b call .book)
   unfolding tests effect outcome
-  call-unsettled Start c = start-unsettled o x (c .0)
-  call-unsettled (CreateThread p) c = thread-unsettled o x p (leb-false 32 (length (s .scheduler .rows .threads)) (c .1 .0)) (within 1 15 p (c .0) .0) (within 1 15 p (c .0) .1)
-  call-unsettled (CreateMutex p) c = mutex-unsettled o x p (leb-false 16 (length (s .scheduler .rows .mutexes)) (c .1 .0)) (within 1 15 p (c .0) .0) (within 1 15 p (c .0) .1)
-  call-unsettled CreateCondition c = condition-unsettled o x (leb-false 16 (length (s .scheduler .rows .ties)) (c .0))
-  call-unsettled CreateTimer c = timed-unsettled x o (s .timers ++ (S.stoppedTimer ∷ [])) (b .timers ++ (stoppedTimer ∷ []))
+  call-before-next Start c = start-before-next o x (c .0)
+  call-before-next (CreateThread p) c = thread-before-next o x p (leb-false 32 (length (s .scheduler .rows .threads)) (c .1 .0)) (within 1 15 p (c .0) .0) (within 1 15 p (c .0) .1)
+  call-before-next (CreateMutex p) c = mutex-before-next o x p (leb-false 16 (length (s .scheduler .rows .mutexes)) (c .1 .0)) (within 1 15 p (c .0) .0) (within 1 15 p (c .0) .1)
+  call-before-next CreateCondition c = condition-before-next o x (leb-false 16 (length (s .scheduler .rows .ties)) (c .0))
+  call-before-next CreateTimer c = timed-before-next x o (s .timers ++ (S.stoppedTimer ∷ [])) (b .timers ++ (stoppedTimer ∷ []))
       (ap₂ (λ ts t. ts ++ (t ∷ [])) (x .timers) (sym (stopped-left (b .count))) ∙ sym (map-append (leftAt (b .count)) (b .timers) (stoppedTimer ∷ [])))
-  call-unsettled (Acquire m) c = acquire-unsettled o x (c .0) m c
-  call-unsettled (Release m) c = release-unsettled o x (c .0) m c
-  call-unsettled (Wait d m) c = wait-unsettled o x (c .0) d m c
-  call-unsettled (Signal d) c = signal-unsettled o x (c .0) d (leb-false (length (s .scheduler .rows .ties)) d (c .1 .0))
-  call-unsettled (Broadcast d) c = broadcast-unsettled o x (c .0) d (leb-false (length (s .scheduler .rows .ties)) d (c .1 .0))
-  call-unsettled (StartTimer i d kind v) c = timed-unsettled x o (set (s .timers) i (record { state = stateOf kind; condition = d; length = ticksIn (v .0); left = ticksIn (v .0) }))
+  call-before-next (Acquire m) c = acquire-before-next o x (c .0) m c
+  call-before-next (Release m) c = release-before-next o x (c .0) m c
+  call-before-next (Wait d m) c = wait-before-next o x (c .0) d m c
+  call-before-next (Signal d) c = signal-before-next o x (c .0) d (leb-false (length (s .scheduler .rows .ties)) d (c .1 .0))
+  call-before-next (Broadcast d) c = broadcast-before-next o x (c .0) d (leb-false (length (s .scheduler .rows .ties)) d (c .1 .0))
+  call-before-next (StartTimer i d kind v) c = timed-before-next x o (set (s .timers) i (record { state = stateOf kind; condition = d; length = ticksIn (v .0); left = ticksIn (v .0) }))
       (set (b .timers) i (record { state = kindState kind; condition = d; length = ticksIn (v .0); due = b .count + ticksIn (v .0) }))
       (ap₂ (λ ts t. set ts i t) (x .timers) (λ j. record { state = kind-alike kind j; condition = d; length = ticksIn (v .0); left = whole j })
       ∙ sym (map-set (leftAt (b .count)) (b .timers) i (record { state = kindState kind; condition = d; length = ticksIn (v .0); due = b .count + ticksIn (v .0) })))
     where
       whole : ticksIn (v .0) ≡ b .count + ticksIn (v .0) - b .count
       whole = omega arith
-  call-unsettled (StopTimer i) c = timed-unsettled x o (set (s .timers) i S.stoppedTimer) (set (b .timers) i stoppedTimer)
+  call-before-next (StopTimer i) c = timed-before-next x o (set (s .timers) i S.stoppedTimer) (set (b .timers) i stoppedTimer)
       (ap₂ (λ ts t. set ts i t) (x .timers) (sym (stopped-left (b .count))) ∙ sym (map-set (leftAt (b .count)) (b .timers) i stoppedTimer))
-  call-unsettled Tick c = tick-unsettled o x (c .0)
+  call-before-next Tick c = tick-before-next o x (c .0)
 
   pub call-given : (call : Call) → Clear (tests (s .scheduler .rows) (s .timers) call) → given s call ≡ outcome b call .given
   unfolding tests given outcome

@@ -12,7 +12,7 @@ use Rattle.rules.specs.Page.{Page}
 use Rattle.laws.specs.Lists.{tabulate}
 use Rattle.calls.specs.Rows.{decoded, byCode, fits, taken}
 use Rattle.book.specs.Book.{Book, priority, largestOwned, stand, own, better, firstBelow, marksBelow, furthest, above, below, arrive, arriveInFront}
-use Rattle.book.specs.Turns.{Turn, turn, turnOf, bookAnswers, verdict, ownedBy, outcome, run, createThread, acquire, becomeOwner, handOver, release, tie, wait, leave, untie, wake, runs, renewed, expire, expireBelow, turnTo, settle, isTick}
+use Rattle.book.specs.Turns.{Turn, turn, turnOf, bookAnswers, verdict, ownedBy, outcome, run, createThread, acquire, becomeOwner, handOver, release, tie, wait, leave, untie, wake, runs, renewed, expire, expireBelow, turnTo, runNext, isTick}
 use Rattle.book.specs.Shown.{bookBoot, placeOf, kindOf, runningIn, enter, show, lower}
 
 -- the book after several calls
@@ -75,5 +75,5 @@ pub record Table : Type 0 where
   pub run : map numbers (bookAnswers bookBoot wholeRun) ≡ ((0 ∷ 1 ∷ 255 ∷ []) ∷ (0 ∷ 255 ∷ 1 ∷ []) ∷ (0 ∷ 0 ∷ 1 ∷ []) ∷ [])
 
 pub examples : Table
-unfolding after bookBoot enter placeOf kindOf runningIn show lower turn turnOf bookAnswers decoded byCode fits taken priority largestOwned same stand own better firstBelow marksBelow furthest above below arrive arriveInFront verdict ownedBy outcome run createThread acquire becomeOwner handOver release tie wait leave untie wake runs renewed expire expireBelow turnTo settle isTick tabulate
+unfolding after bookBoot enter placeOf kindOf runningIn show lower turn turnOf bookAnswers decoded byCode fits taken priority largestOwned same stand own better firstBelow marksBelow furthest above below arrive arriveInFront verdict ownedBy outcome run createThread acquire becomeOwner handOver release tie wait leave untie wake runs renewed expire expireBelow turnTo runNext isTick tabulate
 examples = record { E5 = refl; E6 = refl; E9 = refl; E10 = refl; E11 = refl; run = refl }

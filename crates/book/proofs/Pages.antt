@@ -2,68 +2,40 @@
 -- Assumes nothing.
 use Prim.Native.Nat.{ℕ, zero, suc, _+_, _-_, _%_, _<_}
 use mathlib.Core.Path.{_≡_, refl, sym, ap, ap₂, _∙_, subst}
-use mathlib.Core.Bool.{true, false, cond, _||_, _&&_, false≢true}
+use mathlib.Core.Bool.{true, false, cond, _&&_}
 use mathlib.Core.List.{List, [], _∷_, map}
 use native.Mathlib.Omega.{arith}
 use lib.ListN.{length, List·getD-map}
 use lib.Dec.{eqb}
 use lib.IntN.{ℤ, pos}
 use lib.Signed.{ltZ}
-use borrow.Author.Tests.{eqb-true, ne-eqb, lt-ltb}
-use Rattle.laws.specs.Bools.{by-cases, no-way, refuted, or-elim, or-right, and-left, and-right, cond-true, cond-false}
+use borrow.Author.Tests.{ne-eqb, lt-ltb}
+use Rattle.laws.specs.Bools.{by-cases, cond-true, cond-false}
 use Rattle.laws.specs.Lists.{by-equal, tabulate, tabulate-same, getD-tabulate}
 use Rattle.rules.specs.Queues.{queue}
 use Rattle.rules.specs.State.{Where, running, ready, forMutex, onCondition, same, TimerState, stopped, oneShot, periodic, Rows, Scheduler, State, setAt, boot}
 use Rattle.rules.specs.State as S
 use Rattle.rules.specs.Sound.{mem, sound}
 use Rattle.rules.specs.Page.{ThreadRow, TimerRow, Page, noRow, threadRow, whereOf, threadOf, runnerFrom, rowsOf, describedBy, howMany, stateCode, objectCode, timerCode, ahead, placeAt, rowAt, timerRowOf, pageFormed, pageSound, pageOf}
-use Rattle.soundness.proofs.Tests.{mem-first}
-use Rattle.soundness.proofs.Fits.{Ordered, ordered-mono, here, here-prio}
+use Rattle.soundness.proofs.Fits.{ordered-mono, here, here-prio}
 use Rattle.soundness.proofs.Fits as F
 use Rattle.soundness.proofs.Rows.{Real, not-running, standing-exists}
 use Rattle.soundness.proofs.Facts.{Sound, low}
 use Rattle.soundness.proofs.Tested.{sound-facts}
 use Rattle.soundness.proofs.Kept.{boot-is-sound}
-use Rattle.pages.proofs.Counts.{many-same, many-none, many-more}
-use Rattle.pages.proofs.Order.{ahead-ordered}
+use Rattle.pages.proofs.Counts.{many-same}
+use Rattle.pages.proofs.Order.{ahead-ordered, ahead-by}
 use Rattle.pages.proofs.Places.{same-running, stands-at, at-stands, not-run}
 use Rattle.pages.proofs.Pages.{page-of-sound, described-is-sound, boot-page}
 use Rattle.book.specs.Book.{Book, Thread, thread, priority, standsAt, there}
 use Rattle.book.specs.Book as B
 use Rattle.book.specs.Shown.{bookBoot, placeOf, kindOf, enterThread, enterTimer, runningIn, enter, stateNumber, objectNumber, kindNumber, lower, placeIn, showThread, showTimer, show}
-use Rattle.book.proofs.Marks.{less-self, less-one-way}
+use Rattle.book.proofs.Marks.{less-one-way}
 use Rattle.book.proofs.Alike.{plain, rowsIn, markOf, thread-in, Earlier, Marked, at-alike, priority-alike, threads-alike}
 use Rattle.book.proofs.Timers.{leftAt}
 use Rattle.book.proofs.Same.{Same}
 
 -- ---- places and marks
-
--- in a queue in order of marks as many stand in front of t as have a lower mark
-module _ (n : ℕ) (mark : ℕ → ℤ) where
-  ahead-marks : (q : List ℕ) → Ordered (Earlier mark) q → ((u : ℕ) → mem u q ≡ true → u < n) → (t : ℕ) → mem t q ≡ true
-      → howMany n (λ u. mem u q && ltZ (mark u) (mark t)) ≡ ahead t q
-  unfolding ahead mem
-  ahead-marks [] o w t m = absurd (false≢true m)
-  ahead-marks (x ∷ q) o w t m = by-cases (eqb t x)
-      (λ e. rw e (many-same n (λ u. (eqb u x || mem u q) && ltZ (mark u) (mark t)) (λ u. false) (λ u l. none u e) ∙ many-none n))
-      (λ e. rw e (many-more n x (λ u. (eqb u x || mem u q) && ltZ (mark u) (mark t)) (λ u. mem u q && ltZ (mark u) (mark t)) (w x (mem-first x q)) (rw out) (λ u l. split u e)
-      ∙ ap suc (ahead-marks q (o .1) (λ u z. w u (or-right (eqb u x) (mem u q) z)) t (inside e))))
-    where
-      out : mem x q ≡ false
-      out = refuted (mem x q) (λ y. no-way (ltZ (mark x) (mark x)) (o .0 x y) (less-self (mark x)))
-
-      inside : eqb t x ≡ false → mem t q ≡ true
-      inside e = or-elim (eqb t x) (mem t q) m (λ y. no-way (eqb t x) y e) (λ y. y)
-
-      none : (u : ℕ) → eqb t x ≡ true → ((eqb u x || mem u q) && ltZ (mark u) (mark t)) ≡ false
-      none u e = refuted ((eqb u x || mem u q) && ltZ (mark u) (mark t)) (λ y.
-          let low : ltZ (mark u) (mark x) ≡ true = rw (eqb-true t x e) at (and-right (eqb u x || mem u q) (ltZ (mark u) (mark t)) y) in
-          or-elim (eqb u x) (mem u q) (and-left (eqb u x || mem u q) (ltZ (mark u) (mark t)) y)
-          (λ z. no-way (ltZ (mark x) (mark x)) (rw (eqb-true u x z) at low) (less-self (mark x)))
-          (λ z. no-way (ltZ (mark u) (mark x)) low (less-one-way (mark x) (mark u) (o .0 u z))))
-
-      split : (u : ℕ) → eqb t x ≡ false → ((eqb u x || mem u q) && ltZ (mark u) (mark t)) ≡ (eqb u x || (mem u q && ltZ (mark u) (mark t)))
-      split u e = by-cases (eqb u x) (λ y. rw (y, eqb-true u x y) (o .0 t (inside e))) (λ y. rw y)
 
 -- the book counts so
 lower-many : (b : Book) (w : Where) (p : ℕ) (z : ℤ) (n : ℕ) → lower b w p z n ≡ howMany n (λ u. there b w p u && ltZ (markOf b u) z)
@@ -121,7 +93,7 @@ module _ {s : State} (o : Sound s) {b : Book} (x : Same s b) where
     rank : ahead t (queue (setAt (h .sets) spot) level) ≡ lower b spot level (markOf b t) (length (b .threads))
     rank = sym (lower-many b spot level (markOf b t) (length (b .threads)) ∙ ap (λ n. howMany n (λ u. there b spot level u && ltZ (markOf b u) (markOf b t))) (sym (threads-alike (x .alike)))
         ∙ many-same n (λ u. there b spot level u && ltZ (markOf b u) (markOf b t)) (λ u. mem u (queue (setAt (h .sets) spot) level) && ltZ (markOf b u) (markOf b t)) (λ u l. ap (λ y. y && ltZ (markOf b u) (markOf b t)) (who u))
-        ∙ ahead-marks n (markOf b) (queue (setAt (h .sets) spot) level) (x .alike .marked spot real level (low (o .facts) t))
+        ∙ ahead-by n (λ u v. ltZ (markOf b u) (markOf b v)) (λ u v. less-one-way (markOf b u) (markOf b v)) (queue (setAt (h .sets) spot) level) (x .alike .marked spot real level (low (o .facts) t))
         (λ u m. standing-exists (h .rows) spot u (not-running (length (h .rows .mutexes)) (length (h .rows .ties)) spot real) (here (o .queued .fits spot real) level u (low (o .facts) t) m))
         t (F.there (o .queued .fits spot real) t (stands-at (h .rows) t)))
       where

@@ -26,11 +26,11 @@ use Rattle.soundness.proofs.Tested.{sound-facts}
 use Rattle.soundness.proofs.Keeping.{passed, sound-stays}
 use Rattle.soundness.proofs.Kept.{sound-steps}
 use Rattle.book.specs.Book.{Book}
-use Rattle.book.specs.Turns.{Turn, verdict, outcome, settle, isTick, answered, turn, turnOf, turnRow}
-use Rattle.book.proofs.Timers.{leftAt, timeless-settle}
+use Rattle.book.specs.Turns.{Turn, verdict, outcome, runNext, isTick, answered, turn, turnOf, turnRow}
+use Rattle.book.proofs.Timers.{leftAt, timeless-next}
 use Rattle.book.proofs.Next.{alike-chosen}
 use Rattle.book.proofs.Same.{Same, same-verdict, same-started, same-running}
-use Rattle.book.proofs.Effects.{Unsettled, call-unsettled, call-given}
+use Rattle.book.proofs.Effects.{BeforeNext, call-before-next, call-given}
 
 -- an equal answer, and the same afterwards
 pub record Agree (x : Stepped) (y : Turn) : Type 0 where
@@ -56,30 +56,30 @@ tick-alike (StartTimer i c kind v) = refl
 tick-alike (StopTimer i) = refl
 tick-alike Tick = refl
 
-settled : (atTick : Bool) {e : State} {l : Book} → Unsettled e l → Same (cond (e .scheduler .rows .started) (withScheduler e (chooseNext atTick (e .scheduler))) e) (settle atTick l)
-settled atTick {e} {l} x = by-cases (e .scheduler .rows .started)
-    (λ on. subst (λ i. Same i (settle atTick l)) (sym (cond-true (e .scheduler .rows .started) (withScheduler e (chooseNext atTick (e .scheduler))) e on)) (record {
+next-same : (atTick : Bool) {e : State} {l : Book} → BeforeNext e l → Same (cond (e .scheduler .rows .started) (withScheduler e (chooseNext atTick (e .scheduler))) e) (runNext atTick l)
+next-same atTick {e} {l} x = by-cases (e .scheduler .rows .started)
+    (λ on. subst (λ i. Same i (runNext atTick l)) (sym (cond-true (e .scheduler .rows .started) (withScheduler e (chooseNext atTick (e .scheduler))) e on)) (record {
       alike = alike-chosen atTick (x .same .alike) (x .turning on .0) (x .turning on .1) on;
-      count = x .same .count ∙ ap (λ n. n % 4294967296) (sym (timeless-settle atTick l .count));
-      timers = x .same .timers ∙ ap₂ (λ n xs. map (leftAt n) xs) (sym (timeless-settle atTick l .count)) (sym (timeless-settle atTick l .timers));
+      count = x .same .count ∙ ap (λ n. n % 4294967296) (sym (timeless-next atTick l .count));
+      timers = x .same .timers ∙ ap₂ (λ n xs. map (leftAt n) xs) (sym (timeless-next atTick l .count)) (sym (timeless-next atTick l .timers));
     }))
-    (λ off. subst (λ i. Same i (settle atTick l)) (sym (cond-false (e .scheduler .rows .started) (withScheduler e (chooseNext atTick (e .scheduler))) e off))
+    (λ off. subst (λ i. Same i (runNext atTick l)) (sym (cond-false (e .scheduler .rows .started) (withScheduler e (chooseNext atTick (e .scheduler))) e off))
     (subst (Same e) (sym (stays off)) (x .same)))
   where
-    stays : e .scheduler .rows .started ≡ false → settle atTick l ≡ l
-    stays off = unfold settle in (cond-false (l .started) _ l (sym (same-started (x .same)) ∙ off))
+    stays : e .scheduler .rows .started ≡ false → runNext atTick l ≡ l
+    stays off = unfold runNext in (cond-false (l .started) _ l (sym (same-started (x .same)) ∙ off))
 
 -- ---- one call
 
 module _ {s : State} {b : Book} (o : Sound s) (x : Same s b) (call : Call) where
   -- the book's turn where the call is accepted, and where it is not
   abbrev done : Turn
-  done = answered Done (outcome b call .given) (settle (isTick call) (outcome b call .book))
+  done = answered Done (outcome b call .given) (runNext (isTick call) (outcome b call .book))
 
   module _ (e : eqb (numberOf (verdictOf s call)) 0 ≡ true) where
-    after-same : Same (after s call) (settle (isTick call) (outcome b call .book))
+    after-same : Same (after s call) (runNext (isTick call) (outcome b call .book))
     unfolding after
-    after-same = subst (λ y. Same (after s call) (settle y (outcome b call .book))) (tick-alike call) (settled (T.isTick call) (call-unsettled o x call (passed s call (eqb-true (numberOf (verdictOf s call)) 0 e))))
+    after-same = subst (λ y. Same (after s call) (runNext y (outcome b call .book))) (tick-alike call) (next-same (T.isTick call) (call-before-next o x call (passed s call (eqb-true (numberOf (verdictOf s call)) 0 e))))
 
     after-sound : Sound (after s call)
     after-sound = subst Sound is-after (sound-stays o call)

@@ -18,7 +18,7 @@ use Rattle.rules.specs.Effects.{goes, isDue, afterDue, ticked, dueConditions, s
 use Rattle.soundness.proofs.Next.{Kept}
 use Rattle.soundness.proofs.Calls.{Going, Left, AllBelow, left-each}
 use Rattle.book.specs.Book.{Book, Timer, Found, nobody, somebody, mutex, tied, timer, stoppedTimer, withTimers, nextTick, stand, own, priority, standsAt, highestEarliest, arrive, arriveInFront}
-use Rattle.book.specs.Turns.{runs, run, runFirst, acquire, becomeOwner, handOver, release, tie, wait, leave, untie, wake, signal, signals, renewed, expire, expireBelow, turnTo, settle}
+use Rattle.book.specs.Turns.{runs, run, runFirst, acquire, becomeOwner, handOver, release, tie, wait, leave, untie, wake, signal, signals, renewed, expire, expireBelow, turnTo, runNext}
 use Rattle.book.proofs.Alike.{Alike}
 use Rattle.book.proofs.Calls.{alike-signalled}
 
@@ -75,9 +75,9 @@ timeless-turn atTick b (somebody t) = timeless-cond b (ltb (priority b (b .runne
     (timeless-cond b (atTick && eqb (priority b (b .runner)) (priority b t)) _ _
     (timeless-trans (timeless-arrive b (b .runner) S.ready) (timeless-run (arrive b (b .runner) S.ready) (highestEarliest (arrive b (b .runner) S.ready) S.ready))) (timeless-self b))
 
-pub timeless-settle : (atTick : Bool) (b : Book) → Timeless b (settle atTick b)
-unfolding settle
-timeless-settle atTick b = timeless-cond b (b .started) _ b
+pub timeless-next : (atTick : Bool) (b : Book) → Timeless b (runNext atTick b)
+unfolding runNext
+timeless-next atTick b = timeless-cond b (b .started) _ b
     (timeless-cond b (standsAt b S.running (b .runner)) _ _ (timeless-turn atTick b (highestEarliest b S.ready)) (timeless-run b (highestEarliest b S.ready))) (timeless-self b)
 
 -- ---- one timer

@@ -20,7 +20,7 @@ use Rattle.calls.specs.Answers.{numberOf}
 use Rattle.rules.specs.State.{Where, running, ready, forMutex, onCondition, same, waits, Mutex}
 use Rattle.soundness.proofs.Rows.{same-true, same-self}
 use Rattle.book.specs.Book.{Book, noThread, noMutex, Thread, Found, nobody, somebody, thread, mutex, tied, timer, withTimers, nextTick, nowStarted, stand, own, priority, standsAt, better, firstBelow, highestEarliest, above, below, marksFor, arrive, arriveInFront}
-use Rattle.book.specs.Turns.{runs, run, runFirst, createThread, acquire, becomeOwner, handOver, release, tie, wait, leave, untie, wake, signal, signals, renewed, expire, expireBelow, verdict, outcome, turnTo, settle, isTick, turn}
+use Rattle.book.specs.Turns.{runs, run, runFirst, createThread, acquire, becomeOwner, handOver, release, tie, wait, leave, untie, wake, signal, signals, renewed, expire, expireBelow, verdict, outcome, turnTo, runNext, isTick, turn}
 use Rattle.book.proofs.Alike.{thread-moved, thread-other}
 use Rattle.book.proofs.Search.{found-there}
 
@@ -65,9 +65,9 @@ module _ (t : ℕ) where
       (λ y. either (Stays b) (atTick && eqb (priority b (b .runner)) (priority b u)) _ _
       (λ z. unfold arrive in (stays-back b (b .runner) (above (marksFor b (b .runner) ready)) (not-t b (b .runner) running c (a .1)) (a .0))) (λ z. refl))
 
-  stays-settle : (atTick : Bool) (b : Book) → Aside b → Stays b (settle atTick b)
-  unfolding settle
-  stays-settle atTick b a = either (Stays b) (b .started) _ b
+  stays-next : (atTick : Bool) (b : Book) → Aside b → Stays b (runNext atTick b)
+  unfolding runNext
+  stays-next atTick b a = either (Stays b) (b .started) _ b
       (λ y. either (Stays b) (standsAt b running (b .runner)) _ _ (λ z. stays-turn atTick b a z (highestEarliest b ready)) (λ z. stays-run b (a .0) (highestEarliest b ready) refl))
       (λ y. refl)
 
@@ -88,9 +88,9 @@ calm-turn atTick b (somebody u) = either (Calm b) (ltb (priority b (b .runner)) 
     (λ y. either (Calm b) (atTick && eqb (priority b (b .runner)) (priority b u)) _ _
     (λ z. unfold arrive stand in (calm-run (arrive b (b .runner) ready) (highestEarliest (arrive b (b .runner) ready) ready))) (λ z. refl))
 
-calm-settle : (atTick : Bool) (b : Book) → Calm b (settle atTick b)
-unfolding settle
-calm-settle atTick b = either (Calm b) (b .started) _ b
+calm-next : (atTick : Bool) (b : Book) → Calm b (runNext atTick b)
+unfolding runNext
+calm-next atTick b = either (Calm b) (b .started) _ b
     (λ y. either (Calm b) (standsAt b running (b .runner)) _ _ (λ z. calm-turn atTick b (highestEarliest b ready)) (λ z. calm-run b (highestEarliest b ready)))
     (λ y. refl)
 
@@ -293,24 +293,24 @@ module _ (t m : ℕ) (small : t ≡ 255 → ⊥) where
   on-tick (suc n) b o = on-expire (expireBelow n b .book) (on-tick n b o) n
 
   -- after the rule of three t is ready or running only if it owns m
-  on-settle : (atTick : Bool) (b : Book) → On t m b → waits (thread (settle atTick b) t .stands) ≡ false → mutex (settle atTick b) m .owner ≡ t
-  on-settle atTick b o n = go (o .toward)
+  on-next : (atTick : Bool) (b : Book) → On t m b → waits (thread (runNext atTick b) t .stands) ≡ false → mutex (runNext atTick b) m .owner ≡ t
+  on-next atTick b o n = go (o .toward)
     where
-      waiting : (w : Where) → standsAt b w t ≡ true → same w ready ≡ false → same w running ≡ false → waits w ≡ true → mutex (settle atTick b) m .owner ≡ t
+      waiting : (w : Where) → standsAt b w t ≡ true → same w ready ≡ false → same w running ≡ false → waits w ≡ true → mutex (runNext atTick b) m .owner ≡ t
       waiting w z p q y =
           let is = same-true (thread b t .stands) w z in
-          no-way (waits w) y (sym (ap (λ (x : Thread). waits (x .stands)) (stays-settle t atTick b (ap (λ v. same v ready) is ∙ p, ap (λ v. same v running) is ∙ q)) ∙ ap waits is) ∙ n)
+          no-way (waits w) y (sym (ap (λ (x : Thread). waits (x .stands)) (stays-next t atTick b (ap (λ v. same v ready) is ∙ p, ap (λ v. same v running) is ∙ q)) ∙ ap waits is) ∙ n)
 
-      go : Toward t m b → mutex (settle atTick b) m .owner ≡ t
+      go : Toward t m b → mutex (runNext atTick b) m .owner ≡ t
       go (waits-on c z y) = waiting (onCondition c) z (unfold same in refl) (unfold same in refl) refl
       go (waits-for z) = waiting (forMutex m) z (unfold same in refl) (unfold same in refl) refl
-      go (owns-it z) = ap (λ (ms : List Mutex). getD ms m noMutex .owner) (calm-settle atTick b) ∙ z
+      go (owns-it z) = ap (λ (ms : List Mutex). getD ms m noMutex .owner) (calm-next atTick b) ∙ z
 
 -- one who stayed on a condition variable is still there after the rule of three
-still-waits : (atTick : Bool) (b l : Book) (t c : ℕ) → standsAt b (onCondition c) t ≡ true → Stays t b l → waits (thread (settle atTick l) t .stands) ≡ true
+still-waits : (atTick : Bool) (b l : Book) (t c : ℕ) → standsAt b (onCondition c) t ≡ true → Stays t b l → waits (thread (runNext atTick l) t .stands) ≡ true
 still-waits atTick b l t c e s =
     let is : thread l t .stands ≡ onCondition c = ap (λ (x : Thread). x .stands) s ∙ same-true (thread b t .stands) (onCondition c) e in
-    ap (λ (x : Thread). waits (x .stands)) (stays-settle t atTick l (ap (λ v. same v ready) is ∙ (unfold same in refl), ap (λ v. same v running) is ∙ (unfold same in refl))) ∙ ap waits is
+    ap (λ (x : Thread). waits (x .stands)) (stays-next t atTick l (ap (λ v. same v ready) is ∙ (unfold same in refl), ap (λ v. same v running) is ∙ (unfold same in refl))) ∙ ap waits is
 
 -- ---- one call of the book
 
@@ -319,10 +319,10 @@ module _ (b : Book) (t c : ℕ) (e : standsAt b (onCondition c) t ≡ true) (sma
   begins = record { exists = on-the-list b t c e; real = real; toward = waits-on c e refl }
 
   -- t is where it was, and so not ready or running
-  stays-there : {X : Type 0} (atTick : Bool) (l : Book) → Stays t b l → waits (thread (settle atTick l) t .stands) ≡ false → X
-  stays-there atTick l s n = no-way (waits (thread (settle atTick l) t .stands)) (still-waits atTick b l t c e s) n
+  stays-there : {X : Type 0} (atTick : Bool) (l : Book) → Stays t b l → waits (thread (runNext atTick l) t .stands) ≡ false → X
+  stays-there atTick l s n = no-way (waits (thread (runNext atTick l) t .stands)) (still-waits atTick b l t c e s) n
 
-  outcome-woken : (call : Call) → waits (thread (settle (isTick call) (outcome b call .book)) t .stands) ≡ false → mutex (settle (isTick call) (outcome b call .book)) (tied b c) .owner ≡ t
+  outcome-woken : (call : Call) → waits (thread (runNext (isTick call) (outcome b call .book)) t .stands) ≡ false → mutex (runNext (isTick call) (outcome b call .book)) (tied b c) .owner ≡ t
   unfolding outcome
   outcome-woken Start n = stays-there (isTick Start) (runFirst (nowStarted b)) (stays-start b t c e) n
   outcome-woken (CreateThread p) n = stays-there (isTick (CreateThread p)) (createThread b p) (stays-create b t c e p) n
@@ -332,11 +332,11 @@ module _ (b : Book) (t c : ℕ) (e : standsAt b (onCondition c) t ≡ true) (sma
   outcome-woken (Acquire m) n = stays-there (isTick (Acquire m)) (acquire b m) (stays-acquire b t c e calls m) n
   outcome-woken (Release m) n = stays-there (isTick (Release m)) (release b m) (stays-release b t c e m) n
   outcome-woken (Wait d m) n = stays-there (isTick (Wait d m)) (wait b d m) (stays-wait b t c e calls d m) n
-  outcome-woken (Signal d) n = on-settle t (tied b c) small (isTick (Signal d)) (signal b d .book) (on-wake t (tied b c) small b begins d (highestEarliest b (onCondition d)) refl) n
-  outcome-woken (Broadcast d) n = on-settle t (tied b c) small (isTick (Broadcast d)) (signals (length (b .threads)) b d .book) (on-signals t (tied b c) small (length (b .threads)) b begins d) n
+  outcome-woken (Signal d) n = on-next t (tied b c) small (isTick (Signal d)) (signal b d .book) (on-wake t (tied b c) small b begins d (highestEarliest b (onCondition d)) refl) n
+  outcome-woken (Broadcast d) n = on-next t (tied b c) small (isTick (Broadcast d)) (signals (length (b .threads)) b d .book) (on-signals t (tied b c) small (length (b .threads)) b begins d) n
   outcome-woken (StartTimer i d kind v) n = stays-there (isTick (StartTimer i d kind v)) (outcome b (StartTimer i d kind v) .book) refl n
   outcome-woken (StopTimer i) n = stays-there (isTick (StopTimer i)) (outcome b (StopTimer i) .book) refl n
-  outcome-woken Tick n = on-settle t (tied b c) small (isTick Tick) (expireBelow (length (b .timers)) (nextTick b) .book)
+  outcome-woken Tick n = on-next t (tied b c) small (isTick Tick) (expireBelow (length (b .timers)) (nextTick b) .book)
       (on-tick t (tied b c) small (length (b .timers)) (nextTick b) (on-timers t (tied b c) small b (nextTick b) refl refl refl begins)) n
 
   pub turn-woken : (call : Call) → waits (thread (turn b call .book) t .stands) ≡ false → mutex (turn b call .book) (tied b c) .owner ≡ t

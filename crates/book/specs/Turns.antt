@@ -201,8 +201,8 @@ turnTo atTick b (somebody t) =
     (cond (atTick && eqb (priority b (b .runner)) (priority b t)) (runFirst (arrive b (b .runner) ready)) b)
 
 -- while started: if the running thread has begun to wait the first ready one runs, else it may be preempted
-unfoldable pub settle : Bool → Book → Book
-settle atTick b = cond (b .started) (cond (standsAt b running (b .runner)) (turnTo atTick b (highestEarliest b ready)) (runFirst b)) b
+unfoldable pub runNext : Bool → Book → Book
+runNext atTick b = cond (b .started) (cond (standsAt b running (b .runner)) (turnTo atTick b (highestEarliest b ready)) (runFirst b)) b
 
 -- whether a call is the tick
 unfoldable pub isTick : Call → Bool
@@ -236,7 +236,7 @@ unfoldable pub turn : Book → Call → Turn
 turn b call =
     let v = verdict b call in
     let o = outcome b call in
-    cond (eqb (numberOf v) 0) (answered Done (o .given) (settle (isTick call) (o .book))) (answered v nothing b)
+    cond (eqb (numberOf v) 0) (answered Done (o .given) (runNext (isTick call) (o .book))) (answered v nothing b)
 
 -- a row taken apart: one of wrong form is answered 17
 unfoldable pub turnOf : Book → Decoded → Turn

@@ -4,19 +4,17 @@
 use Prim.Native.Nat.{ℕ, zero, suc, _<_, _≤_}
 use mathlib.Core.Path.{_≡_, refl, sym, ap, ap₂, _∙_, subst}
 use mathlib.Core.Bool.{Bool, true, false, cond, _&&_}
-use mathlib.Core.List.{List, map, append-nil}
+use mathlib.Core.List.{List, append-nil}
 use native.Mathlib.Omega.{arith}
 use lib.ListN.{length, getD, length-map}
 use lib.Dec.{eqb, ltb}
 use borrow.Author.Tests.{le-ltb}
-use Rattle.laws.specs.Bools.{by-cases, and-left, and-right, and-false, and-true, cond-same, cond-true}
+use Rattle.laws.specs.Bools.{by-cases, and-left, and-false, and-true, cond-same, cond-true}
 use Rattle.laws.specs.Lists.{by-equal, by-below, tabulate, length-tabulate}
 use Rattle.rules.specs.Queues.{emptySet}
 use Rattle.rules.specs.State.{Where, running, ready, forMutex, onCondition, same, Thread, Rows, Scheduler, noThread, thread, at, priority, withThreads, stand, setAt, arrive}
-use Rattle.rules.specs.Sound.{all, each, clauses}
 use Rattle.rules.specs.Page as rules
-use Rattle.rules.specs.Page.{Page, noRow, threadRow, threadOf, timerOf, rowsOf, inQueue, queueOf, setOf, describedBy, together, placeSound, objectSound, threadFormed, timerFormed, eachRow, pageFormed, pageSound, stateCode, objectCode}
-use Rattle.soundness.proofs.Tests.{each-at}
+use Rattle.rules.specs.Page.{Page, noRow, threadRow, threadOf, rowsOf, inQueue, queueOf, setOf, describedBy, together, objectSound, threadFormed, timerFormed, eachRow, pageFormed, pageSound, stateCode, objectCode}
 use Rattle.soundness.proofs.Fits.{fits-empty}
 use Rattle.soundness.proofs.Rows.{Real, not-running}
 use Rattle.soundness.proofs.Facts.{Facts, Queued, Sound, low}
@@ -24,8 +22,8 @@ use Rattle.soundness.proofs.Moves.{queued-arrive}
 use Rattle.soundness.proofs.Tested.{sound-facts}
 use Rattle.pages.proofs.Counts.{many-below}
 use Rattle.pages.proofs.Rows.{row-passes, tabulate-is, thread-of, state-found, object-found}
-use Rattle.pages.proofs.Places.{stands-at, at-stands, same-running, placeIn, AllPlaced, test-placed}
-use Rattle.pages.proofs.FromPage.{described-sound}
+use Rattle.pages.proofs.Places.{stands-at, at-stands, same-running, placeIn}
+use Rattle.pages.proofs.FromPage.{placed, objects-sound, described-sound}
 use Rattle.scheduler.specs.declared.Scheduler as scheduled
 use Rattle.meaning.specs.Stands.{schedulerOf}
 use Rattle.meaning.proofs.Threads.{stand-same}
@@ -132,27 +130,13 @@ module _ (p : Page) where
     pub facts : Facts (rowsOf p)
     facts = unfold describedBy in (sound .facts)
 
-    -- the three parts of the test
-    abbrev clauses-hold : Bool
-    clauses-hold = all (clauses (rowsOf p) (p .count) (map timerOf (p .timers)))
-
-    abbrev objects-hold : Bool
-    objects-hold = eachRow objectSound (p .threads)
-
-    abbrev places-hold : Bool
-    places-hold = each (length (p .threads)) (placeSound p)
-
-    -- its threads are placed
-    placed : AllPlaced p
-    placed t l = test-placed p t (each-at (length (p .threads)) (placeSound p) (unfold pageSound in (and-right (clauses-hold && objects-hold) places-hold e)) t l)
-
     -- a state is 1 to 4
     row-formed : (t : ℕ) → t < length (p .threads) → threadFormed (threadRow p t) ≡ true
     row-formed t l = row-passes threadFormed (p .threads) t noRow (and-left (eachRow threadFormed (p .threads)) (eachRow timerFormed (p .timers)) (unfold pageFormed in formed)) l
 
     -- and its object 255 where it waits for none
     row-object : (t : ℕ) → t < length (p .threads) → objectSound (threadRow p t) ≡ true
-    row-object t l = row-passes objectSound (p .threads) t noRow (and-right clauses-hold objects-hold (and-left (clauses-hold && objects-hold) places-hold (unfold pageSound in e))) l
+    row-object t l = row-passes objectSound (p .threads) t noRow (objects-sound p e) l
 
     -- the numbers of a row are those of where its thread stands: the state
     state-is : (t : ℕ) → t < length (p .threads) → stateCode (thread (rowsOf p) t .stands) ≡ threadRow p t .state
@@ -164,7 +148,7 @@ module _ (p : Page) where
 
     -- who does not run has a place below the number of threads
     place-low : (t : ℕ) → t < length (p .threads) → at (rowsOf p) running t ≡ false → placeIn p t < length (p .threads)
-    place-low t l r = subst (λ x. x < length (p .threads)) (placed t l .counted r)
+    place-low t l r = subst (λ x. x < length (p .threads)) (placed p e t l .counted r)
         (many-below (length (p .threads)) t (λ u. together (rowsOf p) t u && ltb (placeIn p u) (placeIn p t)) l
         (rw (le-ltb (placeIn p t) (placeIn p t) (omega arith)) (and-false (together (rowsOf p) t t))))
 

@@ -9,6 +9,7 @@ use lib.ListN.{length, getD, replicate, List·getD-eq-default}
 use lib.Dec.{eqb, ltb}
 use borrow.Author.Tests.{lt-ltb, le-ltb, ne-eqb}
 use Rattle.laws.specs.Bools.{by-cases, cond-true, cond-false}
+use Rattle.laws.specs.Filling.{filled}
 use Rattle.laws.specs.Lists.{by-equal, by-below, tabulate, length-tabulate, getD-tabulate, tabulate-same, tabulate-below, tabulate-one}
 use Rattle.rules.specs.Queues.{emptySet}
 use Rattle.rules.specs.State.{Where, running, ready, forMutex, onCondition, same, Thread, Mutex, noMutex, noThread, thread, mutex, tied, highestCeiling, priority, setAt}
@@ -27,7 +28,7 @@ use Rattle.meaning.proofs.Owning.{highest-stands}
 use Rattle.page.specs.declared.ThreadRow.{ThreadRow}
 use Rattle.page.specs.declared.Page.{Page}
 use Rattle.page.specs.Says.{threadSaid, mutexSaid, noThreadRow, noMutexRow, said}
-use Rattle.build.specs.Models.{upTo, freeRow, blankRow, mutexRows, tieRows, runningRow, threadRows, runnerIn, blankScheduler}
+use Rattle.build.specs.Models.{freeRow, blankRow, mutexRows, tieRows, runningRow, threadRows, runnerIn, blankScheduler}
 use Rattle.build.proofs.Stages.{stage}
 use Rattle.build.proofs.Arrivals.{many, stageAt, first-stands, first-base, first-priority, first-sets, first-queued, facts}
 
@@ -39,14 +40,14 @@ all-fit n size h = omega arith
 
 module _ {A : Type 0} (size n : ℕ) (f : ℕ → A) (d : A) (fits : n ≤ size) where
   -- a table of the code is that of g, where g has the rows in use and is blank past them
-  table-is : (g : ℕ → A) → ((i : ℕ) → i < size → i < n → f i ≡ g i) → ((i : ℕ) → i < size → n ≤ i → d ≡ g i) → upTo size (min n size) f d ≡ tabulate size g
-  unfolding upTo
+  table-is : (g : ℕ → A) → ((i : ℕ) → i < size → i < n → f i ≡ g i) → ((i : ℕ) → i < size → n ≤ i → d ≡ g i) → filled size f d (min n size) ≡ tabulate size g
+  unfolding filled
   table-is g inside past = rw (all-fit n size fits) (tabulate-below size (λ i. cond (ltb i n) (f i) d) g (λ i l. by-below i n
       (λ b. cond-true (ltb i n) (f i) d (lt-ltb i n b) ∙ inside i l b)
       (λ b. cond-false (ltb i n) (f i) d (le-ltb i n b) ∙ past i l b)))
 
   -- it is that of what was said, read with a default: h makes a row of each entry
-  pub table-said : {B : Type 0} (h : B → A) (g : ℕ → B) (e : B) → ((i : ℕ) → i < n → f i ≡ h (g i)) → d ≡ h e → upTo size (min n size) f d ≡ tabulate size (λ i. h (getD (tabulate n g) i e))
+  pub table-said : {B : Type 0} (h : B → A) (g : ℕ → B) (e : B) → ((i : ℕ) → i < n → f i ≡ h (g i)) → d ≡ h e → filled size f d (min n size) ≡ tabulate size (λ i. h (getD (tabulate n g) i e))
   table-said h g e inside past = table-is (λ i. h (getD (tabulate n g) i e))
       (λ i l b. inside i b ∙ ap h (sym (getD-tabulate n g i e b)))
       (λ i l b. past ∙ ap h (sym (List·getD-eq-default (tabulate n g) e {n = i} (rw (length-tabulate n g) b))))

@@ -5,12 +5,12 @@ use mathlib.Core.Bool.{cond}
 use mathlib.Core.List.{List}
 use native.Mathlib.Omega.{arith}
 use lib.ListN.{getD, set, replicate}
-use lib.Dec.{eqb, ltb}
-use borrow.Author.Tests.{lt-ltb, le-ltb, eq-eqb, ne-eqb}
-use Rattle.laws.specs.Lists.{by-below, tabulate-same, tabulate-one, set-tabulate-below}
+use lib.Dec.{eqb}
+use borrow.Author.Tests.{eq-eqb, ne-eqb}
+use Rattle.laws.specs.Filling.{filled, fill-none, fill-next}
 use Rattle.page.specs.declared.ThreadRow.{ThreadRow}
 use Rattle.page.specs.Says.{noThreadRow}
-use Rattle.build.specs.Models.{upTo, runnerIn}
+use Rattle.build.specs.Models.{runnerIn}
 
 -- ---- row after row
 
@@ -36,34 +36,21 @@ module _ {A : Type 0} (size : ℕ) (upto : ℕ → A) where
 -- ---- tables
 
 module _ {A : Type 0} (size : ℕ) (f : ℕ → A) (d : A) where
-  -- at first no row is filled
-  upto-none : replicate size d ≡ upTo size 0 f d
-  unfolding upTo
-  upto-none = sym (tabulate-one size d) ∙ tabulate-same size (λ i. d) (λ i. cond (ltb i 0) (f i) d) (λ i. rw (le-ltb i 0 (omega arith)))
-
-  -- one row more
-  upto-next : (i : ℕ) → i < size → set (upTo size i f d) i (f i) ≡ upTo size (suc i) f d
-  unfolding upTo
-  upto-next i l = set-tabulate-below size (λ j. cond (ltb j i) (f j) d) (λ j. cond (ltb j (suc i)) (f j) d) i (f i) l (rw (lt-ltb i (suc i) (omega arith)))
-      (λ u b n. by-below u i
-      (λ h. rw (lt-ltb u i h, lt-ltb u (suc i) (omega arith)))
-      (λ h. rw (le-ltb u i h, le-ltb u (suc i) (omega (arith, n)))))
-
   -- the first rows are filled
   abbrev pub Filling : ℕ → ℕ → ℕ → List A → Type 0
-  Filling n most i made = Going size (λ k. upTo size k f d) n most i made
+  Filling n most i made = Going size (filled size f d) n most i made
 
   -- none at first
   pub filling-starts : (n most : ℕ) → most ≡ min n size → Filling n most 0 (replicate size d)
-  filling-starts n most e = going-starts size (λ k. upTo size k f d) n most (replicate size d) e upto-none
+  filling-starts n most e = going-starts size (filled size f d) n most (replicate size d) e (fill-none size f d)
 
   -- one more at each turn
   pub filling-turns : (n most i : ℕ) (made : List A) → Filling n most i made → i < most → Filling n most (i + 1) (set made i (f i))
-  filling-turns n most i made h l = going-turns size (λ k. upTo size k f d) n most i made (set made i (f i)) (λ x. set x i (f i)) h l refl (upto-next i (omega (arith, h .bound)))
+  filling-turns n most i made h l = going-turns size (filled size f d) n most i made (set made i (f i)) (λ x. set x i (f i)) h l refl (fill-next size f d i (f i) (omega (arith, h .bound)) refl ∙ ap (filled size f d) (omega arith))
 
   -- and all at the end
-  pub filling-ends : (n most i : ℕ) (made : List A) → Filling n most i made → most ≤ i → made ≡ upTo size (min n size) f d
-  filling-ends = going-ends size (λ k. upTo size k f d)
+  pub filling-ends : (n most i : ℕ) (made : List A) → Filling n most i made → most ≤ i → made ≡ filled size f d (min n size)
+  filling-ends = going-ends size (filled size f d)
 
 -- ---- the search for the running thread
 

@@ -5,8 +5,8 @@ use Prim.Native.Nat.{ℕ, zero, suc, min, max}
 use mathlib.Core.Bool.{cond}
 use mathlib.Core.List.{List}
 use lib.ListN.{getD, replicate}
-use lib.Dec.{eqb, ltb}
-use Rattle.laws.specs.Lists.{tabulate}
+use lib.Dec.{eqb}
+use Rattle.laws.specs.Filling.{filled}
 use Rattle.queue.specs.Models.{emptyLinks, emptyQueues}
 use Rattle.parts.specs.declared.Thread.{Thread}
 use Rattle.scheduler.specs.declared.Mutex.{Mutex}
@@ -26,11 +26,6 @@ use Rattle.page.specs.Says.{noThreadRow, noMutexRow, noTimerRow}
 
 -- ---- tables
 
-module _ {A : Type 0} where
-  -- a table of a size whose first n rows are those of f, and the others d
-  unfoldable pub upTo : ℕ → ℕ → (ℕ → A) → A → List A
-  upTo size n f d = tabulate size (λ i. cond (ltb i n) (f i) d)
-
 -- the row of a mutex that is not there
 abbrev pub freeRow : Mutex
 freeRow = record { ceiling = 0; owner = 255; count = 0 }
@@ -41,11 +36,11 @@ blankRow = record { base = 0; priority = 0; state = 2; object = 255 }
 
 -- the rows of n mutexes
 unfoldable pub mutexRows : List Mutex → ℕ → List Mutex
-mutexRows rows n = upTo 16 (min n 16) (λ m. getD rows m noMutexRow) freeRow
+mutexRows rows n = filled 16 (λ m. getD rows m noMutexRow) freeRow (min n 16)
 
 -- the ties of n condition variables
 unfoldable pub tieRows : List ℕ → ℕ → List ℕ
-tieRows rows n = upTo 16 (min n 16) (λ c. getD rows c 0) 255
+tieRows rows n = filled 16 (λ c. getD rows c 0) 255 (min n 16)
 
 -- the row of thread t while it stands in no queue
 unfoldable pub runningRow : List Mutex → ThreadRow → ℕ → Thread
@@ -53,7 +48,7 @@ runningRow mutexes row t = record { base = row .base; priority = max (row .base)
 
 -- the rows of n threads, none of which stands in a queue
 unfoldable pub threadRows : List ThreadRow → List Mutex → ℕ → List Thread
-threadRows rows mutexes n = upTo 32 (min n 32) (λ t. runningRow mutexes (getD rows t noThreadRow) t) blankRow
+threadRows rows mutexes n = filled 32 (λ t. runningRow mutexes (getD rows t noThreadRow) t) blankRow (min n 32)
 
 -- the engine's row of a timer
 abbrev pub timerFrom : TimerRow → Timer
@@ -61,7 +56,7 @@ timerFrom row = record { state = row .state; condition = row .condition; length 
 
 -- the rows of n timers
 unfoldable pub timerRows : List TimerRow → ℕ → List Timer
-timerRows rows n = upTo 32 (min n 32) (λ i. timerFrom (getD rows i noTimerRow)) stoppedRow
+timerRows rows n = filled 32 (λ i. timerFrom (getD rows i noTimerRow)) stoppedRow (min n 32)
 
 -- the wheel once the timers below n are hung for their ticks left
 unfoldable pub hungBelow : List TimerRow → ℕ → Wheel → Wheel

@@ -15,7 +15,10 @@ use Rattle.page.specs.declared.ThreadRow.{ThreadRow}
 use Rattle.page.specs.declared.TimerRow.{TimerRow}
 use Rattle.page.specs.declared.Page.{Page}
 use Rattle.page.specs.Says.{threadSaid, timerSaid}
-use Rattle.checks.specs.Models.{rowAt, mutexAt, timerAt, priorityAt, standsOf, prioritiesIn, baseFits, runsFits, notAbove, existsIn, readyAtRest, threadFits, placeFits, threadAt, threadsFit, mutexWaitersFit, ownerFits, mutexFits, mutexesFit, conditionsFit, runsOn, timerFits, timersFit, idleFits, runnerFits, knownOf, tablesFit}
+use Rattle.standing.specs.Models.{rowAt, mutexAt, priorityAt, standsOf, prioritiesIn}
+use Rattle.places.specs.Models.{baseFits, runsFits, notAbove, existsIn, readyAtRest, threadFits, placeFits, threadAt, threadsFit, idleFits, runnerFits}
+use Rattle.objects.specs.Models.{mutexWaitersFit, ownerFits, mutexFits, mutexesFit, conditionsFit}
+use Rattle.checks.specs.Models.{timerAt, runsOn, timerFits, timersFit, knownOf, tablesFit}
 use Rattle.checks.proofs.Tests.{each-and, each-implies}
 use Rattle.checks.proofs.Shuffle.{Tests, inCode}
 

@@ -18,8 +18,11 @@ use Rattle.rules.specs.Page.{timerOf, howMany, together, threadFormed, timerFor
 use Rattle.pages.proofs.Counts.{many-same}
 use Rattle.scheduler.specs.declared.Mutex.{Mutex}
 use Rattle.page.specs.declared.Page.{Page}
-use Rattle.checks.specs.declared.Known.{Known}
-use Rattle.checks.specs.Models.{tieAt, standsOf, freeIn, baseFits, runsFits, notAbove, existsIn, besideIn, smallerAt, equalAt, countedIn, placeFits, nobodyIn, mutexWaiterFits, mutexWaitersFit, ownerFits, ceilingOf, conditionWaiterFits, conditionWaitersFit, tieFits, conditionFits, conditionsFit, runsOn, topIn, idleFits, runnerFits, knownOf}
+use Rattle.standing.specs.declared.Known.{Known}
+use Rattle.standing.specs.Models.{standsOf, freeIn, nobodyIn, topIn}
+use Rattle.places.specs.Models.{baseFits, runsFits, notAbove, existsIn, besideIn, smallerAt, equalAt, countedIn, placeFits, idleFits, runnerFits}
+use Rattle.objects.specs.Models.{tieAt, mutexWaiterFits, mutexWaitersFit, ownerFits, ceilingOf, conditionWaiterFits, conditionWaitersFit, tieFits, conditionFits, conditionsFit}
+use Rattle.checks.specs.Models.{runsOn, knownOf}
 use Rattle.checks.proofs.Tests.{each-same, each-and, timers-rows, goes-rows}
 use Rattle.checks.proofs.Told
 use Rattle.checks.proofs.Shuffle.{inClauses, implies-rest}

@@ -1,5 +1,3 @@
-pub mod Standing
-pub mod Loops
 pub mod Timing
 pub mod Tests
 pub mod Told

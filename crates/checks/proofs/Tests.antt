@@ -14,7 +14,7 @@ use Rattle.rules.specs.State.{Mutex, Timer, Rows, highestCeiling, owned}
 use Rattle.rules.specs.Effects.{goes}
 use Rattle.rules.specs.Sound.{each, implies, timerSound, timersSound, noneGoes}
 use Rattle.rules.specs.Page.{eachRow}
-use Rattle.checks.specs.Models.{highest}
+use Rattle.standing.specs.Models.{highest}
 
 -- the same test below n
 pub each-same : (n : ℕ) (f g : ℕ → Bool) → ((i : ℕ) → i < n → f i ≡ g i) → each n f ≡ each n g

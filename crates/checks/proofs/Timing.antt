@@ -11,7 +11,7 @@ use Rattle.rules.specs.State.{stopped, oneShot, periodic}
 use Rattle.rules.specs.Effects.{goes}
 use Rattle.rules.specs.Page.{timerStateOf}
 use Rattle.page.specs.declared.TimerRow.{TimerRow}
-use Rattle.checks.specs.declared.Known.{Known}
+use Rattle.standing.specs.declared.Known.{Known}
 use Rattle.checks.specs.Models.{runsOn, timerFits}
 
 -- a timer runs unless its state is 0

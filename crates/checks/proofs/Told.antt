@@ -19,7 +19,9 @@ use Rattle.rules.specs.Page.{runnerFrom, rowsOf, threadOf, timerOf, threadRow, 
 use Rattle.pages.proofs.Rows.{thread-of}
 use Rattle.page.specs.declared.Page.{Page}
 use Rattle.page.specs.Says.{threadSaid, mutexSaid, timerSaid, noThreadRow, noMutexRow, noTimerRow, said}
-use Rattle.checks.specs.Models.{rowAt, mutexAt, tieAt, timerAt, priorityAt, standsOf, ceilingIn, prioritiesIn, freeIn, threadsIn, topIn}
+use Rattle.standing.specs.Models.{rowAt, mutexAt, priorityAt, standsOf, ceilingIn, prioritiesIn, freeIn, threadsIn, topIn}
+use Rattle.objects.specs.Models.{tieAt}
+use Rattle.checks.specs.Models.{timerAt}
 use Rattle.checks.proofs.Tests.{each-same, rows-each, map-tabulate, ceiling-highest, owned-none}
 
 -- what a page says, read as the code reads it

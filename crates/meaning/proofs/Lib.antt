@@ -1,4 +1,5 @@
 pub mod Sides
+pub mod Choice
 pub mod Fresh
 pub mod Joining
 pub mod Rows

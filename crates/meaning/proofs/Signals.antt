@@ -3,7 +3,7 @@
 -- Assumes nothing.
 use Prim.Native.Nat.{ℕ, zero, suc, _+_, _-_, _%_, _<_, _≤_, max}
 use mathlib.Core.Path.{_≡_, refl, sym, ap, ap₂, _∙_, subst}
-use mathlib.Core.Bool.{Bool, true, false, cond, _&&_}
+use mathlib.Core.Bool.{Bool, true, cond}
 use mathlib.Core.List.{List, [], _∷_, _++_, flatten}
 use native.Mathlib.Omega.{arith}
 use lib.ListN.{length, getD, set, replicate}
@@ -25,7 +25,7 @@ use Rattle.scheduler.specs.Models as models
 use Rattle.scheduler.specs.Models.{mutexOf, onConditionOf, ownModel, waitForModel, readyModel, wakeModel, leaveConditionModel, untieModel, signalToModel, signalModel, broadcastModel, createModel, createMutexModel, withRan, runFirstModel, chooseNextModel}
 use Rattle.rules.specs.Queues.{First, nobody, somebody, emptySet, firstLeaves}
 use Rattle.rules.specs.State.{Where, running, ready, forMutex, onCondition, waits, Rows, Sets, Scheduler, noMutex, thread, mutex, tied, priority, withRows, stand, own, tie, setAt, putSet, firstAt, arrive, arriveInFront, depart}
-use Rattle.rules.specs.Next.{run, runFirst, higher, equal, chooseNext}
+use Rattle.rules.specs.Next.{run, runFirst, chooseNext}
 use Rattle.rules.specs.Effects.{woken, untied, signalledTo, signalled, signalledTimes, leaver, leavers}
 use Rattle.soundness.proofs.Fits.{first-queue}
 use Rattle.soundness.proofs.Rows.{Real, stands-stand, length-stand, length-tie, set-same}
@@ -34,6 +34,7 @@ use Rattle.soundness.proofs.Moves.{first-at, first-stands, first-exists, queued
 use Rattle.soundness.proofs.Next.{Kept, Turned}
 use Rattle.soundness.proofs.Calls.{Going, Left, left-signalled, nobody-255, stands-there, low-taken}
 use Rattle.meaning.specs.Stands.{threadsOf, mutexIn, schedulerOf}
+use Rattle.meaning.proofs.Choice.{choice}
 use Rattle.meaning.proofs.Fresh.{has-set}
 use Rattle.meaning.proofs.Joining.{headOf, head-stands}
 use Rattle.meaning.proofs.Threads.{ranOf, run-first-stands, choose-next-stands}
@@ -216,22 +217,12 @@ stays-front h t = unfold arriveInFront putSet stand in record { mutexes = refl; 
 stays-back : (h : Scheduler) (t : ℕ) → Stays h (arrive h t ready)
 stays-back h t = unfold arrive putSet stand in record { mutexes = refl; ties = refl; mutex = refl; condition = refl }
 
--- either of two
-either : {h : Scheduler} (b : Bool) (y z : Scheduler) → Stays h y → Stays h z → Stays h (cond b y z)
-either true y z p q = p
-either false y z p q = q
-
 stays-next : (tick : Bool) (h : Scheduler) → Stays h (chooseNext tick h)
-unfolding chooseNext
 stays-next tick h =
     let caller = h .rows .runner in
-    let preempted = runFirst (arriveInFront h caller) in
-    let rotated = runFirst (arrive h caller ready) in
-    let rest = cond (tick && equal (firstAt h ready) (priority (h .rows) caller)) rotated h in
-    either (waits (thread (h .rows) caller .stands)) (runFirst h) (cond (higher (firstAt h ready) (priority (h .rows) caller)) preempted rest) (stays-first h)
-    (either (higher (firstAt h ready) (priority (h .rows) caller)) preempted rest (stays-trans h (arriveInFront h caller) (stays-front h caller) (stays-first (arriveInFront h caller)))
-    (either (tick && equal (firstAt h ready) (priority (h .rows) caller)) rotated h (stays-trans h (arrive h caller ready) (stays-back h caller) (stays-first (arrive h caller ready)))
-    (record { mutexes = refl; ties = refl; mutex = refl; condition = refl })))
+    choice (Stays h) tick h (record { mutexes = refl; ties = refl; mutex = refl; condition = refl }) (stays-first h)
+    (stays-trans h (arriveInFront h caller) (stays-front h caller) (stays-first (arriveInFront h caller)))
+    (stays-trans h (arrive h caller ready) (stays-back h caller) (stays-first (arrive h caller ready)))
 
 -- the threads and the running thread are put back, and the rest is as it was
 put-back : (h g : Scheduler) → Stays h g → withRan (schedulerOf h) (ranOf g) ≡ schedulerOf g

@@ -2,15 +2,16 @@
 -- Assumes nothing.
 use Prim.Native.Nat.{ℕ, zero, suc, _+_, _-_}
 use mathlib.Core.Path.{_≡_, refl, _∙_}
-use mathlib.Core.Bool.{Bool, true, false, cond, _&&_}
+use mathlib.Core.Bool.{Bool, cond}
 use mathlib.Core.List.{List, [], _∷_}
 use lib.ListN.{length}
 use lib.Dec.{eqb, ltb}
 use Rattle.rules.specs.Queues.{First, nobody, somebody}
-use Rattle.rules.specs.State.{Where, running, ready, forMutex, onCondition, waits, Rows, Scheduler, thread, mutex, tied, priority, withRows, stand, own, tie, firstAt, arrive, arriveInFront, depart}
-use Rattle.rules.specs.Next.{run, runFirst, higher, equal, chooseNext}
+use Rattle.rules.specs.State.{Where, running, ready, forMutex, onCondition, Scheduler, mutex, tied, withRows, stand, own, tie, firstAt, arrive, arriveInFront, depart}
+use Rattle.rules.specs.Next.{run, runFirst, chooseNext}
 use Rattle.rules.specs.Effects.{acquired, passedTo, released, waited, woken, untied, signalledTo, signalled, signalledTimes, signalledEach}
 use Rattle.soundness.proofs.Rows.{length-stand, length-own, length-tie}
+use Rattle.meaning.proofs.Choice.{either, choice}
 
 pub record Sizes (h g : Scheduler) : Type 0 where
   pub started : g .rows .started ≡ h .rows .started
@@ -23,11 +24,6 @@ sizes-same h = record { started = refl; threads = refl; mutexes = refl; ties = r
 
 sizes-trans : (h g : Scheduler) {i : Scheduler} → Sizes h g → Sizes g i → Sizes h i
 sizes-trans h g a b = record { started = b .started ∙ a .started; threads = b .threads ∙ a .threads; mutexes = b .mutexes ∙ a .mutexes; ties = b .ties ∙ a .ties }
-
--- either of two
-either : {h : Scheduler} (b : Bool) (y z : Scheduler) → Sizes h y → Sizes h z → Sizes h (cond b y z)
-either true y z p q = p
-either false y z p q = q
 
 -- ---- moves
 
@@ -57,15 +53,11 @@ unfolding runFirst
 sizes-first h = sizes-run h (firstAt h ready)
 
 pub sizes-next : (tick : Bool) (h : Scheduler) → Sizes h (chooseNext tick h)
-unfolding chooseNext
 sizes-next tick h =
     let caller = h .rows .runner in
-    let preempted = runFirst (arriveInFront h caller) in
-    let rotated = runFirst (arrive h caller ready) in
-    let rest = cond (tick && equal (firstAt h ready) (priority (h .rows) caller)) rotated h in
-    either (waits (thread (h .rows) caller .stands)) (runFirst h) (cond (higher (firstAt h ready) (priority (h .rows) caller)) preempted rest) (sizes-first h)
-    (either (higher (firstAt h ready) (priority (h .rows) caller)) preempted rest (sizes-trans h (arriveInFront h caller) (sizes-front h caller) (sizes-first (arriveInFront h caller)))
-    (either (tick && equal (firstAt h ready) (priority (h .rows) caller)) rotated h (sizes-trans h (arrive h caller ready) (sizes-arrive h caller ready) (sizes-first (arrive h caller ready))) (sizes-same h)))
+    choice (Sizes h) tick h (sizes-same h) (sizes-first h)
+    (sizes-trans h (arriveInFront h caller) (sizes-front h caller) (sizes-first (arriveInFront h caller)))
+    (sizes-trans h (arrive h caller ready) (sizes-arrive h caller ready) (sizes-first (arrive h caller ready)))
 
 -- ---- the calls
 
@@ -74,8 +66,8 @@ unfolding acquired
 sizes-acquired h m =
     let caller = h .rows .runner in
     let taken = withRows h (own (h .rows) m caller 1) in
-    either (eqb (mutex (h .rows) m .owner) caller) (withRows h (own (h .rows) m caller (mutex (h .rows) m .count + 1))) (cond (eqb (mutex (h .rows) m .owner) 255) taken (arrive h caller (forMutex m))) (sizes-own h m caller (mutex (h .rows) m .count + 1))
-    (either (eqb (mutex (h .rows) m .owner) 255) taken (arrive h caller (forMutex m)) (sizes-own h m caller 1) (sizes-arrive h caller (forMutex m)))
+    either (Sizes h) (eqb (mutex (h .rows) m .owner) caller) (withRows h (own (h .rows) m caller (mutex (h .rows) m .count + 1))) (cond (eqb (mutex (h .rows) m .owner) 255) taken (arrive h caller (forMutex m))) (sizes-own h m caller (mutex (h .rows) m .count + 1))
+    (either (Sizes h) (eqb (mutex (h .rows) m .owner) 255) taken (arrive h caller (forMutex m)) (sizes-own h m caller 1) (sizes-arrive h caller (forMutex m)))
 
 sizes-passed : (h : Scheduler) (m : ℕ) (f : First) → Sizes h (passedTo h m f)
 sizes-passed h m nobody = unfold passedTo in (sizes-own h m 255 0)
@@ -89,7 +81,7 @@ sizes-passed h m (somebody p t) = unfold passedTo in (sizes-trans h owns owned (
 
 pub sizes-released : (h : Scheduler) (m : ℕ) → Sizes h (released h m)
 unfolding released
-sizes-released h m = either (ltb 1 (mutex (h .rows) m .count)) (withRows h (own (h .rows) m (mutex (h .rows) m .owner) (mutex (h .rows) m .count - 1))) (passedTo h m (firstAt h (forMutex m)))
+sizes-released h m = either (Sizes h) (ltb 1 (mutex (h .rows) m .count)) (withRows h (own (h .rows) m (mutex (h .rows) m .owner) (mutex (h .rows) m .count - 1))) (passedTo h m (firstAt h (forMutex m)))
     (sizes-own h m (mutex (h .rows) m .owner) (mutex (h .rows) m .count - 1)) (sizes-passed h m (firstAt h (forMutex m)))
 
 pub sizes-waited : (h : Scheduler) (c m : ℕ) → Sizes h (waited h c m)
@@ -103,7 +95,7 @@ sizes-woken : (h : Scheduler) (m t : ℕ) → Sizes h (woken h m t)
 unfolding woken
 sizes-woken h m t =
     let owns = withRows h (own (h .rows) m t 1) in
-    either (eqb (mutex (h .rows) m .owner) 255) (arrive owns t ready) (arrive h t (forMutex m)) (sizes-trans h owns (sizes-own h m t 1) (sizes-arrive owns t ready)) (sizes-arrive h t (forMutex m))
+    either (Sizes h) (eqb (mutex (h .rows) m .owner) 255) (arrive owns t ready) (arrive h t (forMutex m)) (sizes-trans h owns (sizes-own h m t 1) (sizes-arrive owns t ready)) (sizes-arrive h t (forMutex m))
 
 sizes-untied : (h : Scheduler) (c : ℕ) (f : First) → Sizes h (untied h c f)
 sizes-untied h c nobody = unfold untied in (sizes-tie h c 255)

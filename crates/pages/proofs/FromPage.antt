@@ -81,8 +81,11 @@ module _ (p : Page) (e : pageSound p ≡ true) where
   two : (clauses-hold && objects-hold) ≡ true
   two = unfold pageSound in (and-left (clauses-hold && objects-hold) places-hold e)
 
-  placed : AllPlaced p
+  pub placed : AllPlaced p
   placed t l = test-placed p t (each-at (length (p .threads)) (placeSound p) (unfold pageSound in (and-right (clauses-hold && objects-hold) places-hold e)) t l)
+
+  pub objects-sound : eachRow objectSound (p .threads) ≡ true
+  objects-sound = and-right clauses-hold objects-hold two
 
   tests : AllTrue (clauses (rowsOf p) (p .count) (map timerOf (p .timers)))
   tests = all-true (clauses (rowsOf p) (p .count) (map timerOf (p .timers))) (and-left clauses-hold objects-hold two)

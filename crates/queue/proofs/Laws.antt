@@ -1,17 +1,17 @@
 -- What the operations do to the lists that links and queues stand for, over all slots at once: an arrival or a leave changes the list
--- of its slot so, and no other, and keeps the lists fresh. Assumes nothing.
+-- of its slot so, and no other. Assumes nothing.
 use Prim.Native.Nat.{ℕ, _+_, _<_, _≤_}
 use mathlib.Core.Path.{_≡_, refl, sym, ap, _∙_}
 use mathlib.Core.Logic.{_≢_}
-use mathlib.Core.Bool.{true, cond, true≢false}
+use mathlib.Core.Bool.{cond}
 use mathlib.Core.List.{List, [], _∷_, _++_}
 use native.Mathlib.Omega.{arith}
-use lib.ListN.{length, getD, set, replicate}
+use lib.ListN.{length, getD, set}
 use lib.Seq.{getD-set-same, set-getD}
 use lib.Dec.{ltb}
 use borrow.Author.Tests.{lt-ltb}
-use Rattle.laws.specs.Lists.{at, firstOr, lastOr, rest, occupied, one, count, counts, by-equal, by-below, one-same, one-other, count-append, count-rest, counts-none, counts-set, count-at, first-in, last-back, last-in, tabulate, getD-tabulate, tabulate-same, tabulate-one, set-tabulate}
-use Rattle.queue.specs.Models.{emptyQueue, emptyLinks, linked, firstModel, backModel, frontModel, leaveModel}
+use Rattle.laws.specs.Lists.{at, firstOr, lastOr, rest, occupied, one, count, counts, by-equal, by-below, one-same, one-other, count-append, counts-set, count-at, last-back, last-in, getD-tabulate, tabulate-same, set-tabulate}
+use Rattle.queue.specs.Models.{linked, firstModel, backModel, frontModel, leaveModel}
 use Rattle.queue.specs.Stands.{Fresh, endsOf, after, linkOf, linksOf, linkedOf}
 use Rattle.queue.proofs.Linking.{after-first, after-rest, after-back-other, after-back-last, after-back-new, link-none, link-at, link-set}
 
@@ -54,14 +54,6 @@ module _ (ls : List (List ℕ)) (s : ℕ) (l : List ℕ) (here : at ls s ≡ l) 
           low = λ u b. omega (arith, counts-with u m, more u, one-other u t (omega arith), fresh .low u b);
         }
 
-    -- and where nothing comes to l
-    pub fresh-less : (m : List ℕ) → ((u : ℕ) → count u m ≤ count u l) → Fresh (set ls s m)
-    fresh-less m less =
-        record {
-          once = λ u. omega (arith, counts-with u m, less u, fresh .once u);
-          low = λ u b. omega (arith, counts-with u m, less u, fresh .low u b);
-        }
-
     -- a thread of the new list is linked to what follows it there
     link-new : (u : ℕ) (m : List ℕ) → Fresh (set ls s m) → 0 < count u m → linkOf u (set ls s m) ≡ after u m 255
     link-new u m f h =
@@ -82,24 +74,6 @@ module _ (ls : List (List ℕ)) (s : ℕ) (l : List ℕ) (here : at ls s ≡ l) 
         → set (linksOf ls .next) v w ≡ linksOf (set ls s m) .next
     unfolding linksOf
     one-link m v w e h = rw (← e) (set-tabulate 32 (λ t. linkOf t ls) (λ t. linkOf t (set ls s m)) v h)
-
-    -- ---- the first leaves
-
-    -- freshness is kept
-    pub fresh-leave : Fresh (set ls s (rest l))
-    fresh-leave = fresh-less (rest l) (λ u. count-rest u l)
-
-    -- nobody comes by it
-    pub counts-leave : (u : ℕ) → counts u (set ls s (rest l)) ≤ counts u ls
-    counts-leave u = omega (arith, counts-with u (rest l), count-rest u l)
-
-    -- and it stands nowhere then
-    pub out-left : occupied l ≡ true → counts (firstOr 255 l) (set ls s (rest l)) ≡ 0
-    out-left e = omega (arith, counts-with (firstOr 255 l) (rest l), fresh .once (firstOr 255 l), go l e)
-      where
-        go : (l : List ℕ) → occupied l ≡ true → count (firstOr 255 l) l ≡ 1 + count (firstOr 255 l) (rest l)
-        go [] e = absurd (true≢false (sym e))
-        go (x ∷ l) e = omega (arith, one-same x)
 
     -- ---- t arrives from nowhere
 
@@ -193,36 +167,7 @@ module _ (ls : List (List ℕ)) (s : ℕ) (fresh : Fresh ls) (inside : s < lengt
   pub leave-of : leaveModel (linksOf ls) (endsOf (at ls s)) ≡ linkedOf ls s (rest (at ls s))
   leave-of = leave-at ls s (at ls s) refl fresh inside
 
-  -- freshness is kept by an arrival at the back
-  pub back-fresh : (t : ℕ) → t < 32 → counts t ls ≡ 0 → Fresh (set ls s (at ls s ++ (t ∷ [])))
-  back-fresh = fresh-back ls s (at ls s) refl fresh inside
-
-  -- by an arrival at the front
-  pub front-fresh : (t : ℕ) → t < 32 → counts t ls ≡ 0 → Fresh (set ls s (t ∷ at ls s))
-  front-fresh = fresh-front ls s (at ls s) refl fresh inside
-
-  -- by a leave
-  pub leave-fresh : Fresh (set ls s (rest (at ls s)))
-  leave-fresh = fresh-leave ls s (at ls s) refl fresh inside
-
-  -- nobody comes by a leave
-  pub leave-counts : (u : ℕ) → counts u (set ls s (rest (at ls s))) ≤ counts u ls
-  leave-counts = counts-leave ls s (at ls s) refl fresh inside
-
-  -- the thread that left stands nowhere
-  pub left-out : occupied (at ls s) ≡ true → counts (firstOr 255 (at ls s)) (set ls s (rest (at ls s))) ≡ 0
-  left-out = out-left ls s (at ls s) refl fresh inside
-
-  -- and is one of the 32
-  pub first-low : occupied (at ls s) ≡ true → firstOr 255 (at ls s) < 32
-  first-low e = low-at ls s (at ls s) refl fresh (firstOr 255 (at ls s)) (first-in 255 (at ls s) e)
-
--- ---- the first, and whether there is one
-
--- the first of a queue is the first of its list, 255 for none
-pub first-of : (l : List ℕ) → firstModel (endsOf l) ≡ firstOr 255 l
-unfolding endsOf
-first-of l = refl
+-- ---- whether there is a first
 
 -- a queue of threads has a first below 32 exactly where its list is not empty
 pub occupied-of : (l : List ℕ) → ((u : ℕ) → 32 ≤ u → count u l ≡ 0) → ltb (firstModel (endsOf l)) 32 ≡ occupied l
@@ -231,30 +176,3 @@ occupied-of [] h = refl
 occupied-of (x ∷ l) h =
     by-below x 32 (λ b. lt-ltb x 32 b)
     (λ b. absurd (omega (arith, h x b, one-same x)))
-
--- the empty list has the empty queue
-pub ends-none : endsOf [] ≡ emptyQueue
-unfolding endsOf
-ends-none = refl
-
--- and no other list of threads has it
-pub empty-of : (l : List ℕ) → ((u : ℕ) → 32 ≤ u → count u l ≡ 0) → endsOf l ≡ emptyQueue → l ≡ []
-unfolding endsOf
-empty-of [] h e = refl
-empty-of (x ∷ l) h e =
-    let z : x ≡ 255 = ap (λ q. q .first) e in
-    absurd (omega (arith, h x (omega arith), one-same x))
-
--- ---- nothing stands anywhere
-
--- empty lists are fresh
-pub fresh-none : (n : ℕ) → Fresh (replicate n [])
-fresh-none n = record { once = λ u. omega (arith, counts-none u n); low = λ u b. counts-none u n }
-
--- and their links are the empty ones
-pub links-none : (n : ℕ) → linksOf (replicate n []) ≡ emptyLinks
-unfolding linksOf emptyLinks
-links-none n =
-    let e : tabulate 32 (λ t. linkOf t (replicate n [])) ≡ replicate 32 255 =
-    tabulate-same 32 (λ t. linkOf t (replicate n [])) (λ t. 255) (λ t. link-none t (replicate n []) (counts-none t n)) ∙ tabulate-one 32 255 in
-    λ i. record { next = e i }

@@ -1,15 +1,14 @@
 -- One turn of the search from above, and of the walk along the links. Assumes nothing.
-use Prim.Native.Nat.{ℕ, zero, suc, _+_, _-_, _≤_, _<_}
-use mathlib.Core.Path.{_≡_, refl, sym, ap, _∙_}
+use Prim.Native.Nat.{ℕ, zero, suc, _≤_, _<_}
+use mathlib.Core.Path.{_≡_, refl, ap}
 use mathlib.Core.Bool.{Bool, true, false}
-use mathlib.Core.List.{List, [], _∷_, _++_, append-assoc, append-nil}
+use mathlib.Core.List.{List, [], _∷_}
 use native.Mathlib.Omega.{arith}
-use lib.ListN.{length, getD, set, replicate, length-append}
+use lib.ListN.{length, getD}
 use borrow.Author.Tests.{lt-ltb, le-ltb}
-use Rattle.laws.specs.Tables.{padded, padded-more, padded-none}
 use lib.Dec.{ltb}
 use Rattle.laws.specs.Lists.{getD-any}
-use Rattle.queue.specs.Models.{walk, lineOf, highestBelow, emptyQueue, levelModel, hasFirst}
+use Rattle.queue.specs.Models.{walk, highestBelow, emptyQueue, levelModel, hasFirst}
 use Rattle.queue.specs.declared.Queue.{Queue}
 use Rattle.queue.specs.declared.Queues.{Queues}
 
@@ -52,47 +51,3 @@ walk-zero next t = refl
 pub walk-more : (next : List ℕ) (n t : ℕ) → t < 32 → walk next (suc n) t ≡ t ∷ walk next n (getD next t 0)
 unfolding walk
 walk-more next n t h = rw (lt-ltb t 32 h)
-
--- after n turns the ids hold the threads met, and the walk from t meets the rest of the whole
-pub record Reading (next whole ids : List ℕ) (n t : ℕ) : Type 0 where
-  pub met : List ℕ
-  pub size : length met ≡ n
-  pub room : n ≤ 32
-  pub held : ids ≡ padded 32 255 met
-  pub left : whole ≡ met ++ walk next (32 - n) t
-
--- at first none is met
-pub reading-starts : (next : List ℕ) (t : ℕ) → Reading next (walk next 32 t) (replicate 32 255) 0 t
-reading-starts next t = record { met = []; size = refl; room = omega arith; held = sym (padded-none 32 255); left = refl }
-
-module _ (next whole ids : List ℕ) (n t : ℕ) (r : Reading next whole ids n t) where
-  -- a turn
-  pub reading-turns : n < 32 → t < 32 → Reading next whole (set ids n t) (n + 1) (getD next t 0)
-  reading-turns h k =
-      let e : 32 - n ≡ suc (32 - (n + 1)) = omega arith in
-      record {
-        met = r .met ++ (t ∷ []);
-        size = omega (arith, length-append (r .met) (t ∷ []), r .size);
-        room = omega arith;
-        held = ap (λ l. set l n t) (r .held) ∙ ap (λ m. set (padded 32 255 (r .met)) m t) (sym (r .size))
-            ∙ padded-more 32 255 (r .met) t (omega (arith, r .size));
-        left = r .left ∙ ap (λ m. r .met ++ walk next m t) e ∙ ap (λ l. r .met ++ l) (walk-more next (32 - (n + 1)) t k)
-            ∙ sym (append-assoc (r .met) (t ∷ []) (walk next (32 - (n + 1)) (getD next t 0)));
-      }
-
-  -- where the walk meets no more, the line is whole
-  ends : walk next (32 - n) t ≡ [] → record { ids = ids; count = n } ≡ lineOf whole
-  unfolding lineOf
-  ends e =
-      let w : whole ≡ r .met = r .left ∙ ap (λ l. r .met ++ l) e ∙ append-nil (r .met) in
-      rw w (λ i. record { ids = r .held i; count = sym (r .size) i })
-
-  -- no thread follows
-  pub reading-ends : 32 ≤ t → record { ids = ids; count = n } ≡ lineOf whole
-  reading-ends h = ends (walk-none next (32 - n) t h)
-
-  -- the line is full
-  pub reading-full : 32 ≤ n → record { ids = ids; count = n } ≡ lineOf whole
-  reading-full h =
-      let e : 32 - n ≡ 0 = omega arith in
-      ends (ap (λ m. walk next m t) e ∙ walk-zero next t)

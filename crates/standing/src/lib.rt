@@ -1,0 +1,198 @@
+// What the tests of a page read of its tables: where threads stand, their priorities, who owns nothing, and which thread runs.
+// An id is taken modulo the size of its table, so that every function is total; the limits are tested first.
+use page::ThreadRow;
+use scheduler::Mutex;
+ghost use mathlib.Core.Path.{_≡_};
+ghost use mathlib.Core.Bool.{not, _&&_};
+ghost use Prim.Native.Nat.{max};
+ghost use Rattle.units.specs.Units.{outside};
+ghost use Rattle.rules.specs.State.{same};
+ghost use Rattle.rules.specs.Page.{whereOf, runnerFrom};
+ghost use Rattle.rules.specs.Sound.{implies};
+ghost use Rattle.standing.specs.Models.{kindOf, standsOf, ceilingFor, ceilingIn, prioritiesIn, freeIn, anyoneIn, threadsIn, topIn};
+
+// What the tests of one row read besides it: whether started, the running thread or 255, its priority, and how many threads, mutexes and
+// condition variables there are.
+pub struct Known {
+    pub started: bool,
+    pub runner: u8,
+    pub top: u8,
+    pub threads: u8,
+    pub mutexes: u8,
+    pub conditions: u8,
+}
+
+// Whether both are true.
+pub fn both(x: bool, y: bool) -> bool
+    ensures { λ r. ⌜ r ≡ (x && y) ⌝ }
+{
+    if x {
+        return y;
+    }
+    false
+}
+
+// Whether the second is true if the first is.
+pub fn implied(x: bool, y: bool) -> bool
+    ensures { λ r. ⌜ r ≡ implies x y ⌝ }
+{
+    if x {
+        return y;
+    }
+    true
+}
+
+// Whether a number is from low to high.
+pub fn within(low: u8, high: u8, x: u8) -> bool
+    ensures { λ r. ⌜ r ≡ not (outside low high x) ⌝ }
+{
+    if x < low {
+        return false;
+    }
+    !(high < x)
+}
+
+// The kind of a thread state: 1, 2, 3, and 4 for every other number.
+pub fn kind(state: u8) -> u8
+    ensures { λ r. ⌜ r ≡ kindOf state ⌝ }
+{
+    if state == 1 {
+        return 1;
+    }
+    if state == 2 {
+        return 2;
+    }
+    if state == 3 {
+        return 3;
+    }
+    4
+}
+
+// Whether the thread of a row stands where this state and object say.
+pub fn stands(row: ThreadRow, state: u8, object: u8) -> bool
+    ensures { λ r. ⌜ r ≡ same (standsOf row) (whereOf state object) ⌝ }
+{
+    let here = kind(row.state);
+    let there = kind(state);
+    if here != there {
+        return false;
+    }
+    if here < 3 {
+        return true;
+    }
+    row.object == object
+}
+
+// The larger of a number and the ceiling of a mutex that thread t owns.
+fn raised(best: u8, row: Mutex, t: u8) -> u8
+    ensures { λ r. ⌜ r ≡ max (ceilingFor row t) best ⌝ }
+{
+    if row.owner != t {
+        return best;
+    }
+    if row.ceiling < best {
+        return best;
+    }
+    row.ceiling
+}
+
+// The largest ceiling of the first n mutexes that thread t owns, or 0.
+fn highest_ceiling(mutexes: [Mutex; 16], n: u8, t: u8) -> u8
+    ensures { λ r. ⌜ r ≡ ceilingIn mutexes n t ⌝ }
+{
+    let mut best: u8 = 0;
+    let mut m = n;
+    while 0 < m {
+        m -= 1;
+        let i = (m % 16) as usize;
+        best = raised(best, mutexes[i], t);
+    }
+    best
+}
+
+// The larger of two.
+fn larger(a: u8, b: u8) -> u8
+    ensures { λ r. ⌜ r ≡ max a b ⌝ }
+{
+    if a < b {
+        return b;
+    }
+    a
+}
+
+// The priority of each thread, with the first n mutexes.
+pub fn priorities_of(rows: [ThreadRow; 32], mutexes: [Mutex; 16], n: u8) -> [u8; 32]
+    ensures { λ r. ⌜ r ≡ prioritiesIn rows mutexes n ⌝ }
+{
+    let mut priorities = [0u8; 32];
+    let mut t: u8 = 0;
+    while t < 32 {
+        let i = t as usize;
+        let row = rows[i];
+        let ceiling = highest_ceiling(mutexes, n, t);
+        priorities[i] = larger(row.base, ceiling);
+        t += 1;
+    }
+    priorities
+}
+
+// Whether thread t owns none of the first n mutexes.
+pub fn owns_nothing(mutexes: [Mutex; 16], n: u8, t: u8) -> bool
+    ensures { λ r. ⌜ r ≡ freeIn mutexes n t ⌝ }
+{
+    let mut m = n;
+    while 0 < m {
+        m -= 1;
+        let i = (m % 16) as usize;
+        let row = mutexes[i];
+        if row.owner == t {
+            return false;
+        }
+    }
+    true
+}
+
+// Whether any of the first n threads stands where this state and object say.
+pub fn anyone(rows: [ThreadRow; 32], n: u8, state: u8, object: u8) -> bool
+    ensures { λ r. ⌜ r ≡ anyoneIn rows n (whereOf state object) ⌝ }
+{
+    let mut t = n;
+    while 0 < t {
+        t -= 1;
+        let i = (t % 32) as usize;
+        let row = rows[i];
+        if stands(row, state, object) {
+            return true;
+        }
+    }
+    false
+}
+
+// The first of the first n threads that runs, 255 for none.
+pub fn runner_of(rows: [ThreadRow; 32], n: u8) -> u8
+    ensures { λ r. ⌜ r ≡ runnerFrom 0 (threadsIn rows n) ⌝ }
+{
+    let mut t: u8 = 0;
+    while t < n {
+        let i = (t % 32) as usize;
+        let row = rows[i];
+        if stands(row, 2, 255) {
+            return t;
+        }
+        t += 1;
+    }
+    255
+}
+
+// The priority of thread t with the first mutexes; its base is 0 if it is none of the first n threads.
+pub fn top_of(rows: [ThreadRow; 32], n: u8, mutexes: [Mutex; 16], count: u8, t: u8) -> u8
+    ensures { λ r. ⌜ r ≡ topIn rows n mutexes count t ⌝ }
+{
+    let ceiling = highest_ceiling(mutexes, count, t);
+    if n <= t {
+        return larger(0, ceiling);
+    }
+    let i = (t % 32) as usize;
+    let row = rows[i];
+    larger(row.base, ceiling)
+}
