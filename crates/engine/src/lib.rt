@@ -71,7 +71,7 @@ pub struct Stepped {
 }
 
 // The timer state of a kind.
-fn state_of(kind: Kind) -> u8
+pub fn state_of(kind: Kind) -> u8
     ensures { λ r. ⌜ r ≡ kindCode kind ⌝ }
 {
     match kind {
@@ -81,7 +81,7 @@ fn state_of(kind: Kind) -> u8
 }
 
 // The length in ticks of a delay, 0 where it is out of range.
-fn length_of(v: Micros) -> u16
+pub fn length_of(v: Micros) -> u16
     ensures { λ r. ⌜ r ≡ lengthCode v ⌝ }
 {
     let length = ticks_of(v);

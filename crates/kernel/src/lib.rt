@@ -80,7 +80,7 @@ impl Kernel {
             return self.refused(1);
         }
         let engine = self.engine;
-        let stepped = engine.step_sound(call);
+        let stepped = turns::step(engine, call);
         let after = stepped.engine;
         let answer = stepped.answer;
         self.engine = after;

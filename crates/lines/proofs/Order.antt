@@ -14,7 +14,8 @@ use Rattle.laws.specs.Bools.{by-cases}
 use Rattle.laws.specs.Lists.{by-below}
 use Rattle.calls.specs.declared.Answer.{Answer}
 use Rattle.engine.specs.declared.Engine.{Engine}
-use Rattle.rows.specs.Rows.{rowModel, partModel, rowAt}
+use Rattle.turns.specs.Turning.{partModel}
+use Rattle.rows.specs.Rows.{rowModel, rowAt}
 use Rattle.text.specs.Texts.{lineBytes, laid, collected, usedAfter}
 use Rattle.lines.specs.declared.Lines.{Lines}
 use Rattle.lines.specs.Output.{next, headOf, cutLine, linesFrom, partLines, engineFrom, engineAfter, at, addLine, addedTo, oneRow, rowsFrom, allRows, cutRow, begunLines, begunOutput, partWritten, Room, partLaid}

@@ -12,8 +12,11 @@ use lib.ListN.{length, length-append}
 use Rattle.laws.specs.Bools.{by-cases}
 use Rattle.engine.specs.declared.Engine.{Engine}
 use Rattle.engine.specs.declared.Stepped.{Stepped}
-use Rattle.rows.specs.Rows.{rowModel, partModel, rowAt}
+use Rattle.turns.specs.Turning.{partModel, decodedModel}
+use Rattle.rows.specs.Rows.{rowModel, rowAt}
 use Rattle.calls.specs.declared.Answer.{Answer}
+use Rattle.calls.specs.declared.Decoded.{Decoded}
+use Rattle.calls.specs.Rows.{decoded}
 use Rattle.text.specs.declared.Text.{Text}
 use Rattle.text.specs.Texts.{lineBytes, headingBytes, textOf, bytesOf, collected, usedAfter}
 use Rattle.text.proofs.Collecting.{bytes-of}
@@ -39,7 +42,7 @@ lines-on n i x last bytes h =
     rw (more, add-one i)
 
 -- a turn of the loop: what the code makes of row i is one row more
-pub turn : (n i : ℕ) (x : Engine) (m : Lines) (o bytes row : List ℕ) (s : Stepped) (m′ : Lines) (o′ : List ℕ) → i < n → row ≡ rowAt bytes (i * 8)
+turn : (n i : ℕ) (x : Engine) (m : Lines) (o bytes row : List ℕ) (s : Stepped) (m′ : Lines) (o′ : List ℕ) → i < n → row ≡ rowAt bytes (i * 8)
     → s ≡ rowModel x row → m′ ≡ addLine m (s .answer) o → o′ ≡ addedTo m (s .answer) o
     → rowsFrom (n - (i + 1)) (i + 1) (at (s .engine) m′ o′) bytes ≡ rowsFrom (n - i) i (at x m o) bytes
 turn n i x m o bytes row s m′ o′ h e f g k =
@@ -47,7 +50,7 @@ turn n i x m o bytes row s m′ o′ h e f g k =
     rw made (rows-on n i (at x m o) bytes h)
 
 -- a turn of the loop: the line of row i has at most 48 bytes
-pub turn-short : (n i : ℕ) (x : Engine) (m : Lines) (o bytes row : List ℕ) (s : Stepped) (m′ : Lines) (whole : ℕ) → i < n → row ≡ rowAt bytes (i * 8)
+turn-short : (n i : ℕ) (x : Engine) (m : Lines) (o bytes row : List ℕ) (s : Stepped) (m′ : Lines) (whole : ℕ) → i < n → row ≡ rowAt bytes (i * 8)
     → s ≡ rowModel x row → m′ ≡ addLine m (s .answer) o → length (lineBytes (next (m .last)) (s .answer)) ≤ 48
     → whole ≤ 48 * i + length (linesFrom (n - i) i x (m .last) bytes)
     → whole ≤ 48 * (i + 1) + length (linesFrom (n - (i + 1)) (i + 1) (s .engine) (m′ .last) bytes)
@@ -57,6 +60,21 @@ turn-short n i x m o bytes row s m′ whole h e f g short all =
     let line = rw is at short in
     let split = simp length-append at (ap length (lines-on n i x (m .last) bytes h)) in
     rw (number, is) (omega (arith, line, split, all))
+
+-- a row that was taken apart is the row
+pub taken-row : (x : Engine) (d : Decoded) (row : List ℕ) → d ≡ decoded row → decodedModel x d ≡ rowModel x row
+unfolding rowModel
+taken-row x d row e = ap (decodedModel x) e
+
+-- both, of an engine, lines and a buffer that are those
+module _ (n i : ℕ) (x : Engine) (m : Lines) (o bytes row : List ℕ) (s : Stepped) (m′ : Lines) (o′ : List ℕ) (less : i < n) (read : row ≡ rowAt bytes (i * 8)) (done : s ≡ rowModel x row)
+    (made : m′ ≡ addLine m (s .answer) o) (x″ : Engine) (m″ : Lines) (o″ : List ℕ) (engine : x″ ≡ s .engine) (lines : m″ ≡ m′) (output : o″ ≡ o′) where
+  pub turned : o′ ≡ addedTo m (s .answer) o → rowsFrom (n - (i + 1)) (i + 1) (at x″ m″ o″) bytes ≡ rowsFrom (n - i) i (at x m o) bytes
+  turned added = rw (engine, lines, output) (turn n i x m o bytes row s m′ o′ less read done made added)
+
+  pub turned-short : (whole : ℕ) → length (lineBytes (next (m .last)) (s .answer)) ≤ 48 → whole ≤ 48 * i + length (linesFrom (n - i) i x (m .last) bytes)
+      → whole ≤ 48 * (i + 1) + length (linesFrom (n - (i + 1)) (i + 1) x″ (m″ .last) bytes)
+  turned-short whole short all = rw (engine, lines) (turn-short n i x m o bytes row s m′ whole less read done made short all)
 
 -- before the first turn
 pub begin-rows : (n : ℕ) (w : Written) (bytes : List ℕ) → rowsFrom (n - 0) 0 w bytes ≡ rowsFrom n 0 w bytes

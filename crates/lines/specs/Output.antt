@@ -7,7 +7,8 @@ use lib.ListN.{length}
 use lib.Dec.{eqb}
 use Rattle.calls.specs.declared.Answer.{Answer}
 use Rattle.engine.specs.declared.Engine.{Engine}
-use Rattle.rows.specs.Rows.{rowModel, partModel, rowAt}
+use Rattle.turns.specs.Turning.{partModel}
+use Rattle.rows.specs.Rows.{rowModel, rowAt}
 use Rattle.text.specs.Texts.{lineBytes, headingBytes, laid, collected, usedAfter}
 use Rattle.lines.specs.declared.Lines.{Lines}
 

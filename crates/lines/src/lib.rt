@@ -1,13 +1,20 @@
 // The text of one part of a run, laid into a buffer: the heading, one line for each row's answer, and one for a last row that is cut short.
 use calls::Answer;
+use calls::decode;
 use engine::Engine;
 use rows::part_row;
 use rows::row_at;
-use rows::step_row;
 use std::num::wrapping_add_u64;
 use text::collect;
 use text::heading;
 use text::line;
+use turns::cells_of;
+use turns::clock_of;
+use turns::counts_of;
+use turns::engine_of;
+use turns::is_timed;
+use turns::plain_row;
+use turns::timed_row;
 ghost use mathlib.Core.Path.{_≡_};
 ghost use Prim.Native.Nat.{_≤_, _+_, _*_, _/_};
 ghost use lib.ListN.{length, take};
@@ -36,24 +43,36 @@ fn add_line(lines: Lines, answer: Answer, output: &mut [u8]) -> Lines
     Lines { last, used }
 }
 
-// The lines of the whole rows, in order.
+// The lines of the whole rows, in order. The scheduler is changed in place; the clock is copied for a call on timers only.
 fn answer_rows(engine: Engine, lines: Lines, bytes: &[u8], output: &mut [u8]) -> Answered
     ensures { λ r. ⌜ at (r .engine) (r .lines) (now (output .exit)) ≡ allRows (at engine lines (now (output .entry))) (now (bytes .entry)) ⌝ }
     ensures { λ r. ⌜ length (partLines engine (lines .last) (now (bytes .entry))) ≤ 48 * (length (now (bytes .entry)) / 8) + length (cutLine (r .engine) (r .lines .last) (now (bytes .entry))) ⌝ }
 {
     let rows = bytes.len() / 8;
-    let mut reached = engine;
+    let mut cells = cells_of(engine);
+    let mut clock = clock_of(engine);
+    let mut counts = counts_of(engine);
     let mut made = lines;
     let mut i: usize = 0;
     while i < rows {
         let row = row_at(bytes, i * 8);
-        let stepped = step_row(reached, row);
-        let next = stepped.engine;
-        reached = next;
-        let longer = add_line(made, stepped.answer, output);
-        made = longer;
+        let decoded = decode(row);
+        let timed = is_timed(decoded);
+        if timed {
+            let done = timed_row(&mut cells, clock, counts, decoded);
+            let after = done.clock;
+            clock = after;
+            let longer = add_line(made, done.answer, output);
+            made = longer;
+        } else {
+            let done = plain_row(&mut cells, counts, decoded);
+            counts = done.counts;
+            let longer = add_line(made, done.answer, output);
+            made = longer;
+        }
         i += 1;
     }
+    let reached = engine_of(&cells, clock, counts);
     Answered {
         engine: reached,
         lines: made,

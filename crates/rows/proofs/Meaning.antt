@@ -16,7 +16,8 @@ use Rattle.engine.specs.declared.Engine.{Engine}
 use Rattle.engine.specs.declared.Stepped.{Stepped}
 use Rattle.engine.specs.Stands.{engineOf, steppedOf}
 use Rattle.engine.specs.Models.{stepModel}
-use Rattle.rows.specs.Rows.{partModel, decodedModel, rowModel}
+use Rattle.turns.specs.Turning.{partModel, decodedModel}
+use Rattle.rows.specs.Rows.{rowModel}
 
 -- 17 of the engine that describes a sound state is document 01's 17
 pub part-steps : (s : State) → sound s ≡ true → partModel (engineOf s) ≡ stepDecoded s WrongForm .answer

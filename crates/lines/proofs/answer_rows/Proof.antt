@@ -1,25 +1,41 @@
--- `answer_rows` meets its contract. The invariant: going on from row i gives what the whole gives, and each line so far has at most 48 bytes. The measure is how many rows are left. Assumes nothing.
-use Rattle.lines.proofs.Turning.{turn, turn-short, begin-rows, begin-lines, end-rows, end-lines}
-use Rattle.lines.specs.Output.{at, linesFrom, rowsFrom}
-use lib.ListN.{length}
-use native.Mathlib.Omega.{arith}
-use mathlib.Core.Path.{_≡_, refl, _∙_}
+-- `answer_rows` meets its contract. The invariant: going on from row i gives what the whole gives, and each line so far has at most 48 bytes.
+-- The measure is how many rows are left. Assumes nothing.
 use Prim.Native.Nat.{_-_, _/_, _*_, _+_, _≤_, _<_}
+use mathlib.Core.Path.{_≡_, refl, sym, ap, _∙_, subst}
+use mathlib.Core.Logic.{⊎-elim}
+use native.Mathlib.Omega.{arith}
+use lib.ListN.{length}
 use borrow.Author.Needs.{needs}
+use Rattle.plain.specs.Standing.{engineIn, steppedIn}
+use Rattle.turns.proofs.Sorts.{plain-turns, timed-turns, apart}
+use Rattle.lines.specs.Output.{at, cutLine, linesFrom, rowsFrom}
+use Rattle.lines.proofs.Turning.{taken-row, turned, turned-short, begin-rows, begin-lines, end-rows, end-lines}
 use Rattle.lines.proofs.answer_rows.Statement.{statement}
 use Rattle.lines.proofs.answer_rows.Tie as tie
 
 abbrev Inv-loop : tie.InvT-loop
-Inv-loop bytes output₀ rows reached₀ made₀ i₀ output reached made i = (rows ≡ length bytes / 8) × (i ≤ rows) × (length output ≡ length output₀) × (rowsFrom (rows - i) i (at reached made output) bytes ≡ rowsFrom rows 0 (at reached₀ made₀ output₀) bytes) × (length (linesFrom rows 0 reached₀ (made₀ .last) bytes) ≤ 48 * i + length (linesFrom (rows - i) i reached (made .last) bytes))
+Inv-loop bytes output₀ rows cells₀ clock₀ counts₀ made₀ i₀ output cells clock counts made i =
+    (rows ≡ length bytes / 8) × (i ≤ rows) × (length output ≡ length output₀)
+    × (rowsFrom (rows - i) i (at (engineIn cells clock counts) made output) bytes ≡ rowsFrom rows 0 (at (engineIn cells₀ clock₀ counts₀) made₀ output₀) bytes)
+    × (length (linesFrom rows 0 (engineIn cells₀ clock₀ counts₀) (made₀ .last) bytes) ≤ 48 * i + length (linesFrom (rows - i) i (engineIn cells clock counts) (made .last) bytes))
 
 abbrev μ-loop : tie.MeasureT-loop
-μ-loop bytes output₀ rows reached₀ made₀ i₀ output reached made i = rows - i
+μ-loop bytes output₀ rows cells₀ clock₀ counts₀ made₀ i₀ output cells clock counts made i = rows - i
+
+cells-of-requires : tie.Need-cells-of-requires Inv-loop μ-loop
+cells-of-requires c κs = search needs
+
+clock-of-requires : tie.Need-clock-of-requires Inv-loop μ-loop
+clock-of-requires c κs = search needs
+
+counts-of-requires : tie.Need-counts-of-requires Inv-loop μ-loop
+counts-of-requires c κs = search needs
 
 loop-holds : tie.Need-loop-holds Inv-loop μ-loop
 loop-holds c =
-    let given = c .before .before in
-    let n = length (given .args .bytes .now) / 8 in
-    (refl, omega arith, refl, begin-rows n (at (given .args .engine) (given .args .lines) (given .args .output .now)) (given .args .bytes .now), begin-lines n (given .args .engine) (given .args .lines .last) (given .args .bytes .now))
+    let a = c .before .before .before .before .before .args in
+    let n = length (a .bytes .now) / 8 in
+    (refl, omega arith, refl, begin-rows n _ (a .bytes .now), begin-lines n _ (a .lines .last) (a .bytes .now))
 
 mul-row-at : tie.Need-mul-row-at Inv-loop μ-loop
 mul-row-at c = omega arith
@@ -27,11 +43,23 @@ mul-row-at c = omega arith
 row-at-requires : tie.Need-row-at-requires Inv-loop μ-loop
 row-at-requires c κs = search needs
 
-step-row-requires : tie.Need-step-row-requires Inv-loop μ-loop
-step-row-requires c κs = search needs
+decode-requires : tie.Need-decode-requires Inv-loop μ-loop
+decode-requires c κs = search needs
+
+is-timed-requires : tie.Need-is-timed-requires Inv-loop μ-loop
+is-timed-requires c κs = search needs
+
+timed-row-requires : tie.Need-timed-row-requires Inv-loop μ-loop
+timed-row-requires c κs = search needs
 
 add-line-requires : tie.Need-add-line-requires Inv-loop μ-loop
 add-line-requires c κs = search needs
+
+plain-row-requires : tie.Need-plain-row-requires Inv-loop μ-loop
+plain-row-requires c κs = search needs
+
+add-line-requires-2 : tie.Need-add-line-requires-2 Inv-loop μ-loop
+add-line-requires-2 c κs = search needs
 
 add-i : tie.Need-add-i Inv-loop μ-loop
 add-i c = omega arith
@@ -41,30 +69,54 @@ loop-less c = omega arith
 
 loop-again : tie.Need-loop-again Inv-loop μ-loop
 loop-again c =
-    let l = c .before .before .before .before .before .before .before .before .loop in
+    let l = c .before .before .before .before .before .loop in
     let bytes = c .before .before .before .before .before .before .before .before .before .before .before .args .bytes .now in
     let n = length bytes / 8 in
-    let less : l .i < n = c .before .before .before .before .before .before .before .loop-test .taken in
-    let row = c .before .before .before .before .before .before .row-at in
-    let stepped = c .before .before .before .before .before .step-row in
-    let added = c .before .before .add-line in (
+    let x = engineIn (l .cells) (l .clock) (l .counts) in
+    let less : l .i < n = c .before .before .before .before .loop-test .taken in
+    ⊎-elim
+    (λ w.
+    let s = steppedIn (w .2 .last .0) (w .2 .result .clock) (l .counts) (w .2 .result .answer) in
+    let done = w .2 .ensures ∙ timed-turns x _ (sym (c .before .is-timed .ensures) ∙ w .0 .taken) ∙ taken-row x _ _ (c .before .before .decode .ensures) in
+    let added = w .5 in (
       l .inv .0,
       omega (arith, less),
-      added .kept .1 .1 .0 ∙ l .inv .2,
-      turn n (l .i) (l .reached) (l .made) (l .output) bytes (row .result) (stepped .result) (added .result) (added .last .1 .1 .0) less (row .ensures) (stepped .ensures .0) (added .ensures .0) (added .ensures .1) ∙ l .inv .3,
-      turn-short n (l .i) (l .reached) (l .made) (l .output) bytes (row .result) (stepped .result) (added .result) _ less (row .ensures) (stepped .ensures .0) (added .ensures .0) (added .ensures .2) (l .inv .4),
-    )
+      ap length (w .8) ∙ added .kept .1 .1 .0 ∙ l .inv .2,
+      turned n (l .i) x (l .made) (l .output) bytes _ s _ _ less (c .before .before .before .row-at .ensures) done (added .ensures .0) _ _ _ (λ j. engineIn (w .9 j) (w .10 j) (w .11 j)) (w .12) (w .8) (added .ensures .1) ∙ l .inv .3,
+      turned-short n (l .i) x (l .made) (l .output) bytes _ s _ _ less (c .before .before .before .row-at .ensures) done (added .ensures .0) _ _ _ (λ j. engineIn (w .9 j) (w .10 j) (w .11 j)) (w .12) (w .8) _ (added .ensures .2) (l .inv .4),
+    ))
+    (λ w.
+    let s = steppedIn (w .2 .last .0) (l .clock) (w .2 .result .counts) (w .2 .result .answer) in
+    let done = w .2 .ensures (l .clock) ∙ plain-turns x _ (sym (c .before .is-timed .ensures) ∙ w .0 .left) ∙ taken-row x _ _ (c .before .before .decode .ensures) in
+    let added = w .5 in (
+      l .inv .0,
+      omega (arith, less),
+      ap length (w .8) ∙ added .kept .1 .1 .0 ∙ l .inv .2,
+      turned n (l .i) x (l .made) (l .output) bytes _ s _ _ less (c .before .before .before .row-at .ensures) done (added .ensures .0) _ _ _ (λ j. engineIn (w .9 j) (w .10 j) (w .11 j)) (w .12) (w .8) (added .ensures .1) ∙ l .inv .3,
+      turned-short n (l .i) x (l .made) (l .output) bytes _ s _ _ less (c .before .before .before .row-at .ensures) done (added .ensures .0) _ _ _ (λ j. engineIn (w .9 j) (w .10 j) (w .11 j)) (w .12) (w .8) _ (added .ensures .2) (l .inv .4),
+    ))
+    (c .if1 .came)
+
+engine-of-requires : tie.Need-engine-of-requires Inv-loop μ-loop
+engine-of-requires c κs = search needs
 
 same-length : tie.Need-same-length Inv-loop μ-loop
-same-length c = c .before .loop .inv .2
+same-length c = c .before .before .before .loop .inv .2
 
 returns : tie.Need-returns Inv-loop μ-loop
 returns c =
-    let l = c .before .loop in
-    let bytes = c .before .before .before .before .args .bytes .now in
+    let l = c .before .before .before .loop in
+    let a = c .before .before .before .before .before .before .before .before .before .args in
+    let bytes = a .bytes .now in
     let n = length bytes / 8 in
-    let all : n ≤ l .i = c .loop-test .left in
-    (end-rows n (l .i) (at (l .reached) (l .made) (l .output)) _ bytes all (l .inv .3), end-lines n (l .i) (l .reached) (l .made .last) bytes _ all (l .inv .1) (l .inv .4))
+    let x = engineIn (l .cells) (l .clock) (l .counts) in
+    let begun = apart (a .engine) _ _ _ (c .before .before .before .before .before .before .cells-of .ensures) (c .before .before .before .before .before .clock-of .ensures) (c .before .before .before .before .counts-of .ensures) in
+    let all : n ≤ l .i = c .before .before .loop-test .left in (
+      ap (λ e. at e (l .made) (l .output)) (c .engine-of .ensures) ∙ end-rows n (l .i) (at x (l .made) (l .output)) _ bytes all (l .inv .3)
+          ∙ ap (λ e. rowsFrom n 0 (at e (a .lines) (a .output .now)) bytes) begun,
+      subst (λ e. length (linesFrom n 0 e (a .lines .last) bytes) ≤ 48 * n + length (cutLine (c .engine-of .result) (l .made .last) bytes)) begun
+          (rw (c .engine-of .ensures) (end-lines n (l .i) x (l .made .last) bytes _ all (l .inv .1) (l .inv .4))),
+    )
 
 pub answer-rows-spec : {M : Type 1} → statement M
 answer-rows-spec =
@@ -72,13 +124,21 @@ answer-rows-spec =
     (tie.spec
     Inv-loop
     μ-loop
+    cells-of-requires
+    clock-of-requires
+    counts-of-requires
     loop-holds
     mul-row-at
     row-at-requires
-    step-row-requires
+    decode-requires
+    is-timed-requires
+    timed-row-requires
     add-line-requires
+    plain-row-requires
+    add-line-requires-2
     add-i
     loop-less
     loop-again
+    engine-of-requires
     same-length
     returns)

@@ -22,11 +22,11 @@ returns c =
     let x = c .before .before .before .before .args .engine in
     wrong-promise x _ _ (sym (c .before .before .before .decode .ensures) ∙ c .before .enum-told .given .1) (λ i. record { engine = x; answer = c .part-row .ensures .0 i })
 
-step-sound-requires : tie.Need-step-sound-requires
-step-sound-requires c κs = search needs
+step-requires : tie.Need-step-requires
+step-requires c κs = search needs
 
 returns-2 : tie.Need-returns-2
-returns-2 c = taken-promise _ _ _ (sym (c .before .before .before .before .decode .ensures) ∙ c .before .before .decoded .given .1) (c .step-sound .ensures)
+returns-2 c = taken-promise _ _ _ (sym (c .before .before .before .before .decode .ensures) ∙ c .before .before .decoded .given .1) (c .step .ensures)
 
 pub step-row-spec : {M : Type 1} → statement M
 step-row-spec =
@@ -37,5 +37,5 @@ step-row-spec =
     enum-told
     part-row-requires
     returns
-    step-sound-requires
+    step-requires
     returns-2)

@@ -16,14 +16,14 @@ refused-requires c κs = search needs
 returns : tie.Need-returns
 returns c = unsound-steps (c .before .before .before .args .self) (c .before .before .is-sound .ensures) (Taken (c .before .before .before .args .call)) _ (denied _ (c .before .if1 .taken)) (c .refused .ensures)
 
-step-sound-requires : tie.Need-step-sound-requires
-step-sound-requires c κs = search needs
+step-requires : tie.Need-step-requires
+step-requires c κs = search needs
 
 returns-2 : tie.Need-returns-2
 returns-2 c =
     let begun = c .before .before .before .before .before in
-    sound-steps (begun .before .args .self) (begun .is-sound .ensures) (begun .before .args .call) (c .before .before .step-sound .result) _ (not-not _ (c .before .before .before .before .if1 .left)) (c .before .before .step-sound .ensures .1) refl
+    sound-steps (begun .before .args .self) (begun .is-sound .ensures) (begun .before .args .call) (c .before .before .step .result) _ (not-not _ (c .before .before .before .before .if1 .left)) (c .before .before .step .ensures .1) refl
 
 pub step-spec : {M : Type 1} → statement M
 step-spec =
-    tie.close (tie.spec is-sound-requires refused-requires returns step-sound-requires returns-2)
+    tie.close (tie.spec is-sound-requires refused-requires returns step-requires returns-2)

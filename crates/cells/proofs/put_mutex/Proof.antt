@@ -1,0 +1,57 @@
+use borrow.Author.Needs.{needs}
+use Rattle.cells.proofs.Stores.{mutex-put}
+use Rattle.cells.proofs.put_mutex.Statement.{statement}
+use Rattle.cells.proofs.put_mutex.Tie as tie
+use Rattle.cells.proofs.put_mutex.Reads as reads
+use Rattle.cells.proofs.put_mutex.Lts as lts
+use Rattle.cells.proofs.store.Reads as store-reads
+
+-- src/lib.rt:116:20
+cast-i : tie.Need-cast-i
+cast-i c = search needs
+
+-- src/lib.rt:116:20
+mul-i : tie.Need-mul-i
+mul-i c = search needs
+
+-- src/lib.rt:116:13
+add-i : tie.Need-add-i
+add-i c = search needs
+
+-- src/lib.rt:117:5
+store-requires : tie.Need-store-requires
+store-requires c κs = search needs
+
+-- src/lib.rt:118:18
+add-store : tie.Need-add-store
+add-store c = search needs
+
+-- src/lib.rt:118:5
+store-requires-2 : tie.Need-store-requires-2
+store-requires-2 c κs = search needs
+
+-- src/lib.rt:119:18
+add-store-2 : tie.Need-add-store-2
+add-store-2 c = search needs
+
+-- src/lib.rt:119:5
+store-requires-3 : tie.Need-store-requires-3
+store-requires-3 c κs = search needs
+
+-- src/lib.rt:113:1
+returns : tie.Need-returns
+returns c = rw (c .store3 .ensures, c .before .before .store2 .ensures, c .before .before .before .before .store .ensures) (mutex-put _ (c .before .before .before .before .before .store-arg .given .0 .1) _ _ _ _)
+
+pub put-mutex-spec : {M : Type 1} → statement M
+put-mutex-spec =
+    tie.close
+    (tie.spec
+    cast-i
+    mul-i
+    add-i
+    store-requires
+    add-store
+    store-requires-2
+    add-store-2
+    store-requires-3
+    returns)

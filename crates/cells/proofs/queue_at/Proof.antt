@@ -1,0 +1,70 @@
+use borrow.Author.Needs.{needs}
+use mathlib.Core.Path.{sym, _∙_}
+use native.Mathlib.Omega.{arith}
+use Rattle.cells.proofs.Storing.{queue-read, queue-past}
+use Rattle.cells.proofs.queue_at.Statement.{statement}
+use Rattle.cells.proofs.queue_at.Tie as tie
+use Rattle.cells.proofs.queue_at.Reads as reads
+use Rattle.cells.proofs.queue_at.Lts as lts
+use Rattle.cells.proofs.load.Reads as load-reads
+use Rattle.queue.proofs.Queue.empty.Reads as empty-reads
+
+-- src/lib.rt:79:9
+empty-requires : tie.Need-empty-requires
+empty-requires c κs = search needs
+
+-- src/lib.rt:79:9
+returns : tie.Need-returns
+returns c = c .empty .ensures ∙ sym (queue-past _ _ _ (c .before .if1 .taken))
+
+-- src/lib.rt:81:19
+cast-i : tie.Need-cast-i
+cast-i c = search needs
+
+-- src/lib.rt:81:19
+mul-i : tie.Need-mul-i
+mul-i c = search needs
+
+-- src/lib.rt:81:13
+add-i : tie.Need-add-i
+add-i c = search needs
+
+-- src/lib.rt:81:44
+mul-i-2 : tie.Need-mul-i-2
+mul-i-2 c = search needs
+
+-- src/lib.rt:81:13
+add-i-2 : tie.Need-add-i-2
+add-i-2 c = search needs
+
+-- src/lib.rt:83:16
+load-requires : tie.Need-load-requires
+load-requires c κs = search needs
+
+-- src/lib.rt:84:27
+add-load : tie.Need-add-load
+add-load c = search needs
+
+-- src/lib.rt:84:15
+load-requires-2 : tie.Need-load-requires-2
+load-requires-2 c κs = search needs
+
+-- src/lib.rt:75:1
+returns-2 : tie.Need-returns-2
+returns-2 c = (λ i. record { first = c .before .before .load .ensures i; last = c .load2 .ensures i }) ∙ sym (queue-read _ _ _ (omega arith) (c .before .before .before .before .if1 .left))
+
+pub queue-at-spec : {M : Type 1} → statement M
+queue-at-spec =
+    tie.close
+    (tie.spec
+    empty-requires
+    returns
+    cast-i
+    mul-i
+    add-i
+    mul-i-2
+    add-i-2
+    load-requires
+    add-load
+    load-requires-2
+    returns-2)

@@ -1,0 +1,26 @@
+use borrow.Author.Needs.{needs}
+use mathlib.Core.Path.{sym}
+use lib.Seq.{set-out}
+use Rattle.cells.proofs.store.Statement.{statement}
+use Rattle.cells.proofs.store.Tie as tie
+use Rattle.cells.proofs.store.Reads as reads
+use Rattle.cells.proofs.store.Lts as lts
+
+-- src/lib.rt:30:9
+slice-write-bytes : tie.Need-slice-write-bytes
+slice-write-bytes c = search needs
+
+-- src/lib.rt:26:1
+same-length : tie.Need-same-length
+same-length c = search needs
+
+-- src/lib.rt:26:1
+returns : tie.Need-returns
+returns c = search needs
+
+-- src/lib.rt:26:1
+returns-2 : tie.Need-returns-2
+returns-2 c = sym (set-out _ _ _ (c .if1 .left))
+
+pub store-spec : {M : Type 1} → statement M
+store-spec = tie.close (tie.spec slice-write-bytes same-length returns returns-2)

@@ -1,0 +1,31 @@
+use borrow.Author.Needs.{needs}
+use Rattle.parts.specs.Models.{arriveModel}
+use Rattle.scheduler.specs.Models.{readyModel}
+use Rattle.cells.specs.Changes.{setOf, withSet}
+use Rattle.moves.proofs.arrive.Statement.{statement}
+use Rattle.moves.proofs.arrive.Tie as tie
+use Rattle.moves.proofs.arrive.Reads as reads
+use Rattle.moves.proofs.arrive.Lts as lts
+use Rattle.cells.proofs.thread_at.Reads as thread-at-reads
+use Rattle.moves.proofs.join.Reads as join-reads
+use Rattle.moves.proofs.stand.Reads as stand-reads
+
+-- src/lib.rt:122:9
+thread-at-requires : tie.Need-thread-at-requires
+thread-at-requires c κs = search needs
+
+-- src/lib.rt:123:5
+join-requires : tie.Need-join-requires
+join-requires c κs = search needs
+
+-- src/lib.rt:124:5
+stand-requires : tie.Need-stand-requires
+stand-requires c κs = search needs
+
+-- src/lib.rt:119:1
+returns : tie.Need-returns
+unfolding readyModel arriveModel setOf withSet
+returns c = rw (c .stand .ensures, c .before .before .join .ensures, c .before .before .before .before .thread-at .ensures)
+
+pub arrive-spec : {M : Type 1} → statement M
+arrive-spec = tie.close (tie.spec thread-at-requires join-requires stand-requires returns)

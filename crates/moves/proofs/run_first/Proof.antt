@@ -1,0 +1,51 @@
+use borrow.Author.Needs.{needs}
+use mathlib.Core.Path.{_≡_}
+use borrow.Author.Tests.{le-leb, lt-leb}
+use Rattle.parts.specs.Models as parts
+use Rattle.parts.specs.Models.{headModel, runModel}
+use Rattle.scheduler.specs.Models as scheduler
+use Rattle.cells.specs.Cells.{schedulerIn}
+use Rattle.cells.specs.Changes.{setOf, withSet}
+use Rattle.moves.proofs.run_first.Statement.{statement}
+use Rattle.moves.proofs.run_first.Tie as tie
+use Rattle.moves.proofs.run_first.Reads as reads
+use Rattle.moves.proofs.run_first.Lts as lts
+use Rattle.cells.proofs.put_running.Reads as put-running-reads
+use Rattle.moves.proofs.head.Reads as head-reads
+use Rattle.moves.proofs.part.Reads as part-reads
+use Rattle.moves.proofs.stand.Reads as stand-reads
+
+-- src/lib.rt:140:9
+head-requires : tie.Need-head-requires
+head-requires c κs = search needs
+
+-- src/lib.rt:142:9
+returns : tie.Need-returns
+unfolding scheduler.runFirstModel parts.runFirstModel setOf
+returns c =
+    let e : c .before .before .head .result ≡ headModel (schedulerIn (c .before .before .before .before .args .cells .now) .threads .ready) = c .before .before .head .ensures in
+    rw (← e, le-leb _ _ (c .if1 .taken))
+
+-- src/lib.rt:144:5
+part-requires : tie.Need-part-requires
+part-requires c κs = search needs
+
+-- src/lib.rt:145:5
+stand-requires : tie.Need-stand-requires
+stand-requires c κs = search needs
+
+-- src/lib.rt:146:5
+put-running-requires : tie.Need-put-running-requires
+put-running-requires c κs = search needs
+
+-- src/lib.rt:137:1
+returns-2 : tie.Need-returns-2
+unfolding scheduler.runFirstModel parts.runFirstModel runModel setOf withSet
+returns-2 c =
+    let e : c .before .before .before .before .before .before .before .before .head .result ≡ headModel (schedulerIn (c .before .before .before .before .before .before .before .before .before .before .args .cells .now) .threads .ready) = c .before .before .before .before .before .before .before .before .head .ensures in
+    rw (c .put-running .ensures, c .before .before .stand .ensures, c .before .before .before .before .part .ensures, ← e, lt-leb _ _ (c .before .before .before .before .before .before .if1 .left))
+
+pub run-first-spec : {M : Type 1} → statement M
+run-first-spec =
+    tie.close
+    (tie.spec head-requires returns part-requires stand-requires put-running-requires returns-2)

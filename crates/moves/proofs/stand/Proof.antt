@@ -1,0 +1,24 @@
+use borrow.Author.Needs.{needs}
+use Rattle.parts.specs.Models.{standModel}
+use Rattle.moves.proofs.stand.Statement.{statement}
+use Rattle.moves.proofs.stand.Tie as tie
+use Rattle.moves.proofs.stand.Reads as reads
+use Rattle.moves.proofs.stand.Lts as lts
+use Rattle.cells.proofs.put_thread.Reads as put-thread-reads
+use Rattle.cells.proofs.thread_at.Reads as thread-at-reads
+
+-- src/lib.rt:108:9
+thread-at-requires : tie.Need-thread-at-requires
+thread-at-requires c κs = search needs
+
+-- src/lib.rt:115:5
+put-thread-requires : tie.Need-put-thread-requires
+put-thread-requires c κs = search needs
+
+-- src/lib.rt:105:1
+returns : tie.Need-returns
+unfolding standModel
+returns c = rw (c .put-thread .ensures, c .before .before .thread-at .ensures)
+
+pub stand-spec : {M : Type 1} → statement M
+stand-spec = tie.close (tie.spec thread-at-requires put-thread-requires returns)

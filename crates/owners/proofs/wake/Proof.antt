@@ -1,0 +1,42 @@
+use borrow.Author.Needs.{needs}
+use Rattle.scheduler.specs.Models.{wakeModel}
+use borrow.Author.Tests.{le-leb, lt-leb, lt-ltb, le-ltb, eq-eqb, ne-eqb}
+use Rattle.owners.proofs.wake.Statement.{statement}
+use Rattle.owners.proofs.wake.Tie as tie
+use Rattle.owners.proofs.wake.Reads as reads
+use Rattle.owners.proofs.wake.Lts as lts
+use Rattle.cells.proofs.mutex_at.Reads as mutex-at-reads
+use Rattle.moves.proofs.arrive.Reads as arrive-reads
+use Rattle.moves.proofs.wait_for.Reads as wait-for-reads
+use Rattle.owners.proofs.own.Reads as own-reads
+
+-- src/lib.rt:179:9
+mutex-at-requires : tie.Need-mutex-at-requires
+mutex-at-requires c κs = search needs
+
+-- src/lib.rt:181:9
+own-requires : tie.Need-own-requires
+own-requires c κs = search needs
+
+-- src/lib.rt:182:9
+arrive-requires : tie.Need-arrive-requires
+arrive-requires c κs = search needs
+
+-- src/lib.rt:183:9
+returns : tie.Need-returns
+unfolding wakeModel
+returns c = rw (c .arrive .ensures, c .before .before .own .ensures, ← c .before .before .before .before .before .before .mutex-at .ensures, eq-eqb _ _ (c .before .before .before .before .if1 .taken))
+
+-- src/lib.rt:185:5
+wait-for-requires : tie.Need-wait-for-requires
+wait-for-requires c κs = search needs
+
+-- src/lib.rt:176:1
+returns-2 : tie.Need-returns-2
+unfolding wakeModel
+returns-2 c = rw (← c .before .before .before .before .mutex-at .ensures, ne-eqb _ _ (c .before .before .if1 .left)) (c .wait-for .ensures)
+
+pub wake-spec : {M : Type 1} → statement M
+wake-spec =
+    tie.close
+    (tie.spec mutex-at-requires own-requires arrive-requires returns wait-for-requires returns-2)

@@ -1,0 +1,84 @@
+use borrow.Author.Needs.{needs}
+use mathlib.Core.Path.{ap, _∙_}
+use Rattle.engine.specs.Models.{withScheduler, acquireModel}
+use Rattle.plain.specs.Standing.{engineIn}
+use Rattle.plain.proofs.Judging.{refused, accepted, acquire-judged}
+use Rattle.plain.proofs.acquire.Statement.{statement}
+use Rattle.plain.proofs.acquire.Tie as tie
+use Rattle.plain.proofs.acquire.Reads as reads
+use Rattle.plain.proofs.acquire.Lts as lts
+use Rattle.calls.proofs.number.Reads as number-reads
+use Rattle.cells.proofs.mutex_at.Reads as mutex-at-reads
+use Rattle.cells.proofs.running_at.Reads as running-at-reads
+use Rattle.cells.proofs.thread_at.Reads as thread-at-reads
+use Rattle.owners.proofs.acquire.Reads as acquire-reads
+use Rattle.plain.proofs.finish.Reads as finish-reads
+use Rattle.plain.proofs.refuse.Reads as refuse-reads
+use Rattle.verdicts.proofs.acquire_verdict.Reads as acquire-verdict-reads
+
+-- src/lib.rt:85:9
+running-at-requires : tie.Need-running-at-requires
+running-at-requires c κs = search needs
+
+-- src/lib.rt:86:9
+mutex-at-requires : tie.Need-mutex-at-requires
+mutex-at-requires c κs = search needs
+
+-- src/lib.rt:87:9
+thread-at-requires : tie.Need-thread-at-requires
+thread-at-requires c κs = search needs
+
+-- src/lib.rt:88:9
+acquire-verdict-requires : tie.Need-acquire-verdict-requires
+acquire-verdict-requires c κs = search needs
+
+-- src/lib.rt:96:9
+number-requires : tie.Need-number-requires
+number-requires c κs = search needs
+
+-- src/lib.rt:98:9
+refuse-requires : tie.Need-refuse-requires
+refuse-requires c κs = search needs
+
+-- src/lib.rt:98:9
+returns : tie.Need-returns
+unfolding acquireModel
+returns c = λ clock.
+    let a = c .before .before .before .before .before .before .before .before .before .before .before .args in
+    let x = engineIn (a .cells .now) clock (a .counts) in
+    refused x 255 _ _ _ (c .before .before .before .number .ensures)
+    (c .before .before .before .before .acquire-verdict .ensures ∙ acquire-judged x (a .m) _ _ (c .before .before .before .before .before .before .before .before .before .running-at .ensures) (c .before .before .before .before .before .before .before .mutex-at .ensures) _ (c .before .before .before .before .before .thread-at .ensures))
+    _ _ (c .refuse .ensures) (c .before .before .if1 .taken)
+
+-- src/lib.rt:100:5
+acquire-requires : tie.Need-acquire-requires
+acquire-requires c κs = search needs
+
+-- src/lib.rt:101:5
+finish-requires : tie.Need-finish-requires
+finish-requires c κs = search needs
+
+-- src/lib.rt:82:1
+returns-2 : tie.Need-returns-2
+unfolding acquireModel
+returns-2 c = λ clock.
+    let a = c .before .before .before .before .before .before .before .before .before .before .before .before .before .args in
+    let x = engineIn (a .cells .now) clock (a .counts) in
+    accepted x 255 _ _ _ (c .before .before .before .before .before .number .ensures)
+    (c .before .before .before .before .before .before .acquire-verdict .ensures ∙ acquire-judged x (a .m) _ _ (c .before .before .before .before .before .before .before .before .before .before .before .running-at .ensures) (c .before .before .before .before .before .before .before .before .before .mutex-at .ensures) _ (c .before .before .before .before .before .before .before .thread-at .ensures))
+    _ _ _ (c .finish .ensures clock) (ap (withScheduler x) (c .before .before .acquire .ensures)) (c .before .before .before .before .if1 .left)
+
+pub acquire-spec : {M : Type 1} → statement M
+acquire-spec =
+    tie.close
+    (tie.spec
+    running-at-requires
+    mutex-at-requires
+    thread-at-requires
+    acquire-verdict-requires
+    number-requires
+    refuse-requires
+    returns
+    acquire-requires
+    finish-requires
+    returns-2)

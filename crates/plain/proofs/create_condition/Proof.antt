@@ -1,0 +1,84 @@
+use borrow.Author.Needs.{needs}
+use Prim.Native.Nat.{_+_, _%_}
+use mathlib.Core.Bool.{true}
+use mathlib.Core.Path.{refl, ap, _∙_}
+use Rattle.engine.specs.Models.{withScheduler, createConditionModel}
+use Rattle.plain.specs.declared.Counts.{Counts}
+use Rattle.plain.specs.declared.Counted.{Counted}
+use Rattle.plain.specs.Standing.{engineIn, steppedIn}
+use Rattle.plain.proofs.Judging.{refused, accepted}
+use Rattle.plain.proofs.create_condition.Statement.{statement}
+use Rattle.plain.proofs.create_condition.Tie as tie
+use Rattle.plain.proofs.create_condition.Reads as reads
+use Rattle.plain.proofs.create_condition.Lts as lts
+use Rattle.calls.proofs.number.Reads as number-reads
+use Rattle.plain.proofs.finish.Reads as finish-reads
+use Rattle.plain.proofs.refuse.Reads as refuse-reads
+use Rattle.plain.proofs.with_answer.Reads as with-answer-reads
+use Rattle.verdicts.proofs.room_verdict.Reads as room-verdict-reads
+
+-- src/lib.rt:226:9
+room-verdict-requires : tie.Need-room-verdict-requires
+room-verdict-requires c κs = search needs
+
+-- src/lib.rt:227:9
+number-requires : tie.Need-number-requires
+number-requires c κs = search needs
+
+-- src/lib.rt:229:13
+refuse-requires : tie.Need-refuse-requires
+refuse-requires c κs = search needs
+
+-- src/lib.rt:230:9
+with-answer-requires : tie.Need-with-answer-requires
+with-answer-requires c κs = search needs
+
+-- src/lib.rt:230:9
+returns : tie.Need-returns
+unfolding createConditionModel
+returns c = λ clock.
+    let a = c .before .before .before .before .before .before .args in
+    let x = engineIn (a .cells .now) clock (a .counts) in
+    ap (λ (r : Counted). steppedIn (a .cells .now) clock (r .counts) (r .answer)) (c .with-answer .ensures)
+    ∙ refused x (a .counts .conditions) _ _ _ (c .before .before .before .before .number .ensures) (c .before .before .before .before .before .room-verdict .ensures) _ _ (c .before .refuse .ensures) (c .before .before .before .if1 .taken)
+
+-- src/lib.rt:232:25
+add-counts : tie.Need-add-counts
+add-counts c = search needs
+
+-- src/lib.rt:233:40
+cast-finish : tie.Need-cast-finish
+cast-finish c = search needs
+
+-- src/lib.rt:233:9
+finish-requires : tie.Need-finish-requires
+finish-requires c κs = search needs
+
+-- src/lib.rt:234:5
+with-answer-requires-2 : tie.Need-with-answer-requires-2
+with-answer-requires-2 c κs = search needs
+
+-- src/lib.rt:222:1
+returns-2 : tie.Need-returns-2
+unfolding createConditionModel
+returns-2 c = λ clock.
+    let a = c .before .before .before .before .before .before .args in
+    let x = engineIn (a .cells .now) clock (a .counts) in
+    let n : Counts = record { started = a .counts .started; threads = a .counts .threads; mutexes = a .counts .mutexes; conditions = a .counts .conditions % 16 + 1; clocks = a .counts .clocks } in
+    ap (λ (r : Counted). steppedIn (c .before .finish .last .0) clock (r .counts) (r .answer)) (c .with-answer2 .ensures)
+    ∙ accepted x (a .counts .conditions) _ _ _ (c .before .before .before .before .number .ensures) (c .before .before .before .before .before .room-verdict .ensures) _ _ _ (c .before .finish .ensures clock) refl (c .before .before .before .if1 .left)
+
+pub create-condition-spec : {M : Type 1} → statement M
+create-condition-spec =
+    tie.close
+    (tie.spec
+    room-verdict-requires
+    number-requires
+    refuse-requires
+    with-answer-requires
+    returns
+    add-counts
+    cast-finish
+    finish-requires
+    with-answer-requires-2
+    returns-2)

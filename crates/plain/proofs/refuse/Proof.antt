@@ -1,0 +1,22 @@
+use borrow.Author.Needs.{needs}
+use Rattle.plain.proofs.refuse.Statement.{statement}
+use Rattle.plain.proofs.refuse.Tie as tie
+use Rattle.plain.proofs.refuse.Reads as reads
+use Rattle.plain.proofs.refuse.Lts as lts
+use Rattle.calls.proofs.number.Reads as number-reads
+use Rattle.cells.proofs.running_at.Reads as running-at-reads
+
+-- src/lib.rt:57:9
+running-at-requires : tie.Need-running-at-requires
+running-at-requires c κs = search needs
+
+-- src/lib.rt:58:9
+number-requires : tie.Need-number-requires
+number-requires c κs = search needs
+
+-- src/lib.rt:54:1
+returns : tie.Need-returns
+returns c = λ i. record { number = c .number .ensures i; given = 255; running = c .before .running-at .ensures i }
+
+pub refuse-spec : {M : Type 1} → statement M
+refuse-spec = tie.close (tie.spec running-at-requires number-requires returns)

@@ -1,0 +1,78 @@
+use borrow.Author.Needs.{needs}
+use mathlib.Core.Path.{refl, ap, _∙_}
+use Rattle.engine.specs.Models.{withScheduler, releaseModel}
+use Rattle.plain.specs.Standing.{engineIn}
+use Rattle.plain.proofs.Judging.{refused, accepted, release-judged}
+use Rattle.plain.proofs.release.Statement.{statement}
+use Rattle.plain.proofs.release.Tie as tie
+use Rattle.plain.proofs.release.Reads as reads
+use Rattle.plain.proofs.release.Lts as lts
+use Rattle.calls.proofs.number.Reads as number-reads
+use Rattle.cells.proofs.mutex_at.Reads as mutex-at-reads
+use Rattle.cells.proofs.running_at.Reads as running-at-reads
+use Rattle.owners.proofs.release.Reads as release-reads
+use Rattle.plain.proofs.finish.Reads as finish-reads
+use Rattle.plain.proofs.refuse.Reads as refuse-reads
+use Rattle.verdicts.proofs.release_verdict.Reads as release-verdict-reads
+
+-- src/lib.rt:108:9
+running-at-requires : tie.Need-running-at-requires
+running-at-requires c κs = search needs
+
+-- src/lib.rt:109:9
+mutex-at-requires : tie.Need-mutex-at-requires
+mutex-at-requires c κs = search needs
+
+-- src/lib.rt:110:9
+release-verdict-requires : tie.Need-release-verdict-requires
+release-verdict-requires c κs = search needs
+
+-- src/lib.rt:111:9
+number-requires : tie.Need-number-requires
+number-requires c κs = search needs
+
+-- src/lib.rt:113:9
+refuse-requires : tie.Need-refuse-requires
+refuse-requires c κs = search needs
+
+-- src/lib.rt:113:9
+returns : tie.Need-returns
+unfolding releaseModel
+returns c = λ clock.
+    let a = c .before .before .before .before .before .before .before .before .before .args in
+    let x = engineIn (a .cells .now) clock (a .counts) in
+    refused x 255 _ _ _ (c .before .before .before .number .ensures)
+    (c .before .before .before .before .release-verdict .ensures ∙ release-judged x (a .m) _ _ (c .before .before .before .before .before .before .before .running-at .ensures) (c .before .before .before .before .before .mutex-at .ensures))
+    _ _ (c .refuse .ensures) (c .before .before .if1 .taken)
+
+-- src/lib.rt:115:5
+release-requires : tie.Need-release-requires
+release-requires c κs = search needs
+
+-- src/lib.rt:116:5
+finish-requires : tie.Need-finish-requires
+finish-requires c κs = search needs
+
+-- src/lib.rt:105:1
+returns-2 : tie.Need-returns-2
+unfolding releaseModel
+returns-2 c = λ clock.
+    let a = c .before .before .before .before .before .before .before .before .before .before .before .args in
+    let x = engineIn (a .cells .now) clock (a .counts) in
+    accepted x 255 _ _ _ (c .before .before .before .before .before .number .ensures)
+    (c .before .before .before .before .before .before .release-verdict .ensures ∙ release-judged x (a .m) _ _ (c .before .before .before .before .before .before .before .before .before .running-at .ensures) (c .before .before .before .before .before .before .before .mutex-at .ensures))
+    _ _ _ (c .finish .ensures clock) (ap (withScheduler x) (c .before .before .release .ensures)) (c .before .before .before .before .if1 .left)
+
+pub release-spec : {M : Type 1} → statement M
+release-spec =
+    tie.close
+    (tie.spec
+    running-at-requires
+    mutex-at-requires
+    release-verdict-requires
+    number-requires
+    refuse-requires
+    returns
+    release-requires
+    finish-requires
+    returns-2)

@@ -1,0 +1,110 @@
+// For measuring: rows one after the other on a kernel whose scheduler is changed in place, and the sum of their answers.
+use calls::Answer;
+use calls::decode;
+use engine::Engine;
+use plain::Clock;
+use plain::Counts;
+use rows::row_at;
+use std::num::wrapping_add_u64;
+use turns::cells_of;
+use turns::clock_of;
+use turns::counts_of;
+use turns::is_timed;
+use turns::plain_row;
+use turns::timed_row;
+ghost use mathlib.Core.Path.{_≡_};
+ghost use Prim.Native.Nat.{_+_, _%_, _^_};
+ghost use Rattle.tally.specs.Sums.{weight, tallyIn, overRows, repeated, sumOf};
+
+// The clock, the counts, and the sum of the answers so far, modulo 2 to the power of 64.
+struct Tallied {
+    clock: Clock,
+    counts: Counts,
+    sum: u64,
+}
+
+// A sum with one answer more: its number, given and running, 256 to one.
+fn add(sum: u64, answer: Answer) -> u64
+    ensures { λ r. ⌜ r ≡ (sum + weight answer) % 2 ^ 64 ⌝ }
+{
+    let number = answer.number as u64;
+    let given = answer.given as u64;
+    let running = answer.running as u64;
+    wrapping_add_u64(sum, number * 65536 + given * 256 + running)
+}
+
+// All whole rows, in order. The clock is copied for a call on timers only.
+fn tally_rows(
+    cells: &mut [u8; 1281],
+    clock: Clock,
+    counts: Counts,
+    sum: u64,
+    rows: &[u8],
+) -> Tallied
+    ensures { λ r. ⌜ tallyIn (now (cells .exit)) (r .clock) (r .counts) (r .sum) ≡ overRows (tallyIn (now (cells .entry)) clock counts sum) (now (rows .entry)) ⌝ }
+{
+    let count = rows.len() / 8;
+    let mut clock = clock;
+    let mut counts = counts;
+    let mut sum = sum;
+    let mut i: usize = 0;
+    while i < count {
+        let row = row_at(rows, i * 8);
+        let decoded = decode(row);
+        let timed = is_timed(decoded);
+        if timed {
+            let done = timed_row(cells, clock, counts, decoded);
+            let after = done.clock;
+            clock = after;
+            sum = add(sum, done.answer);
+        } else {
+            let done = plain_row(cells, counts, decoded);
+            counts = done.counts;
+            sum = add(sum, done.answer);
+        }
+        i += 1;
+    }
+    Tallied { clock, counts, sum }
+}
+
+// All whole rows, in order, so many times.
+fn tally_repeated(
+    cells: &mut [u8; 1281],
+    clock: Clock,
+    counts: Counts,
+    rows: &[u8],
+    repeats: u64,
+) -> Tallied
+    ensures { λ r. ⌜ tallyIn (now (cells .exit)) (r .clock) (r .counts) (r .sum) ≡ repeated repeats (tallyIn (now (cells .entry)) clock counts 0) (now (rows .entry)) ⌝ }
+{
+    let mut reached = Tallied {
+        clock,
+        counts,
+        sum: 0,
+    };
+    let mut left = repeats;
+    while 0 < left {
+        let clock = reached.clock;
+        let counts = reached.counts;
+        let next = tally_rows(cells, clock, counts, reached.sum, rows);
+        reached = next;
+        left -= 1;
+    }
+    reached
+}
+
+// From boot, the rows of a setup once, and then the rows of a loop so many times; the sum of the loop's answers.
+#[no_mangle]
+pub extern "C" fn run_rows(setup: &[u8], rows: &[u8], repeats: u64) -> u64
+    ensures { λ r. ⌜ r ≡ sumOf (now (setup .entry)) (now (rows .entry)) repeats ⌝ }
+{
+    let engine = Engine::boot();
+    let mut cells = cells_of(engine);
+    let clock = clock_of(engine);
+    let counts = counts_of(engine);
+    let ready = tally_rows(&mut cells, clock, counts, 0, setup);
+    let later = ready.clock;
+    let more = ready.counts;
+    let ended = tally_repeated(&mut cells, later, more, rows, repeats);
+    ended.sum
+}

@@ -1,0 +1,169 @@
+-- `serve_all` is its definition. The invariant: going on from here gives what the whole gives. The measure is how many may still be served. Assumes nothing.
+use Prim.Native.Nat.{_≤_, _+_, _-_}
+use mathlib.Core.Path.{_≡_, refl, sym, ap, _∙_}
+use native.Mathlib.Omega.{arith}
+use lib.ListN.{length, getD}
+use mathlib.Core.Logic.{⊎-elim}
+use borrow.Author.Needs.{needs}
+use Rattle.wheel.specs.Wheels.{idsOf, first}
+use Rattle.engine.specs.Models.{noTimer, serveModel}
+use Rattle.engine.proofs.Serving.{onFrom}
+use Rattle.plain.specs.declared.Counts.{Counts}
+use Rattle.plain.specs.Standing.{engineIn}
+use Rattle.timed.proofs.Serving.{few, one-less, ends, goes-on, hung, unhung, serves-periodic, serves-other}
+use Rattle.timed.proofs.serve_all.Statement.{statement}
+use Rattle.timed.proofs.serve_all.Tie as tie
+use Rattle.timed.proofs.serve_all.Reads as reads
+use Rattle.timed.proofs.serve_all.Lts as lts
+use Rattle.owners.proofs.signal.Reads as signal-reads
+use Rattle.timed.proofs.find_place.Reads as find-place-reads
+use Rattle.wheel.proofs.Due.first.Reads as first-reads
+use Rattle.wheel.proofs.Due.rest.Reads as rest-reads
+
+abbrev Inv-loop : tie.InvT-loop
+Inv-loop cells₀ clock timers₀ wheel₀ left₀ id₀ given₀ cells timers wheel left id given =
+    (given + length (idsOf left) ≤ 32) × (id ≡ first (idsOf left)) × ((counts : Counts) → onFrom given (engineIn cells (record { timers = timers; wheel = wheel; count = clock .count }) counts) (idsOf left) ≡ onFrom 0 (engineIn cells₀ clock counts) (idsOf left₀))
+
+abbrev μ-loop : tie.MeasureT-loop
+μ-loop cells₀ clock timers₀ wheel₀ left₀ id₀ given₀ cells timers wheel left id given = 32 - given
+
+first-requires : tie.Need-first-requires Inv-loop μ-loop
+first-requires c κs = search needs
+
+loop-holds : tie.Need-loop-holds Inv-loop μ-loop
+loop-holds c = (omega (arith, few (c .before .before .before .args .due)), c .first .ensures, λ counts. refl)
+
+cast-i : tie.Need-cast-i Inv-loop μ-loop
+cast-i c = search needs
+
+mul-row : tie.Need-mul-row Inv-loop μ-loop
+mul-row c = search needs
+
+array-copy-out-row : tie.Need-array-copy-out-row Inv-loop μ-loop
+array-copy-out-row c = search needs
+
+signal-requires : tie.Need-signal-requires Inv-loop μ-loop
+signal-requires c κs = search needs
+
+element-copy-out-find-place : tie.Need-element-copy-out-find-place Inv-loop μ-loop
+element-copy-out-find-place c = search needs
+
+find-place-requires : tie.Need-find-place-requires Inv-loop μ-loop
+find-place-requires c κs = search needs
+
+cast-s : tie.Need-cast-s Inv-loop μ-loop
+cast-s c = search needs
+
+mul-wheel : tie.Need-mul-wheel Inv-loop μ-loop
+mul-wheel c = search needs
+
+element-copy-out-wheel : tie.Need-element-copy-out-wheel Inv-loop μ-loop
+element-copy-out-wheel c = search needs
+
+cast-wheel : tie.Need-cast-wheel Inv-loop μ-loop
+cast-wheel c = search needs
+
+shl-wheel : tie.Need-shl-wheel Inv-loop μ-loop
+shl-wheel c = search needs
+
+mul-wheel-2 : tie.Need-mul-wheel-2 Inv-loop μ-loop
+mul-wheel-2 c = search needs
+
+element-write-wheel : tie.Need-element-write-wheel Inv-loop μ-loop
+element-write-wheel c = search needs
+
+mul-wheel-3 : tie.Need-mul-wheel-3 Inv-loop μ-loop
+mul-wheel-3 c = search needs
+
+element-write-wheel-2 : tie.Need-element-write-wheel-2 Inv-loop μ-loop
+element-write-wheel-2 c = search needs
+
+element-write-wheel-3 : tie.Need-element-write-wheel-3 Inv-loop μ-loop
+element-write-wheel-3 c = search needs
+
+mul-timers : tie.Need-mul-timers Inv-loop μ-loop
+mul-timers c = search needs
+
+array-set-from-timers : tie.Need-array-set-from-timers Inv-loop μ-loop
+array-set-from-timers c = search needs
+
+rest-requires : tie.Need-rest-requires Inv-loop μ-loop
+rest-requires c κs = search needs
+
+first-requires-2 : tie.Need-first-requires-2 Inv-loop μ-loop
+first-requires-2 c κs = search needs
+
+add-given : tie.Need-add-given Inv-loop μ-loop
+add-given c = search needs
+
+loop-less : tie.Need-loop-less Inv-loop μ-loop
+loop-less c =
+    let l = c .before .before .before .before .before .before .before .before .loop in
+    omega (arith, l .inv .0, one-less (idsOf (l .left)) (rw (l .inv .1) at (c .before .before .before .before .before .before .before .loop-test .taken)))
+
+-- what is known at the end of a turn of the loop
+abbrev Turn : Type 0
+Turn = lts.After-first2 (first-reads.Asked, first-reads.Learnt, signal-reads.Asked, signal-reads.Learnt, find-place-reads.Asked, find-place-reads.Learnt, rest-reads.Asked, rest-reads.Learnt) reads.Pre reads.Post Inv-loop μ-loop
+
+-- the timer that is first is served
+served-one : (c : Turn) (counts : Counts)
+    → engineIn (c .before .before .before .before .signal .last .0) (record { timers = c .before .before .if1 .timers; wheel = c .before .before .if1 .wheel; count = c .before .before .before .before .before .before .before .before .before .before .before .before .args .clock .count }) counts
+    ≡ serveModel (engineIn (c .before .before .before .before .before .before .before .before .loop .cells) (record { timers = c .before .before .before .before .before .before .before .before .loop .timers; wheel = c .before .before .before .before .before .before .before .before .loop .wheel; count = c .before .before .before .before .before .before .before .before .before .before .before .before .args .clock .count }) counts)
+    (c .before .before .before .before .before .before .before .before .loop .id)
+served-one c counts =
+    let l = c .before .before .before .before .before .before .before .before .loop in
+    let low = c .before .before .before .before .before .before .before .loop-test .taken in
+    let signalled = c .before .before .before .before .signal .ensures in
+    let k = c .before .before .before .before .signal .last .0 in
+    let count = c .before .before .before .before .before .before .before .before .before .before .before .before .args .clock .count in
+    let row = getD (l .timers) (l .id) noTimer in
+    ⊎-elim (λ w. (λ i. engineIn k (record { timers = w .7 i; wheel = w .8 i; count = count }) counts) ∙ serves-periodic (l .cells) k (l .timers) (l .wheel) count (l .id) _ row low refl signalled counts _ (w .0 .taken) (hung (l .wheel) (l .id) (row .length) low _ (w .2 .ensures) (w .4 .taken)))
+    (⊎-elim (λ w. (λ i. engineIn k (record { timers = w .5 i; wheel = w .6 i; count = count }) counts) ∙ serves-periodic (l .cells) k (l .timers) (l .wheel) count (l .id) _ row low refl signalled counts _ (w .0 .taken) (unhung (l .wheel) (l .id) (row .length) low _ (w .2 .ensures) (w .4 .left)))
+    (λ w. (λ i. engineIn k (record { timers = w .1 i; wheel = w .2 i; count = count }) counts) ∙ serves-other (l .cells) k (l .timers) (l .wheel) count (l .id) _ row low refl signalled counts (w .0 .left)))
+    (c .before .before .if1 .came)
+
+loop-again : tie.Need-loop-again Inv-loop μ-loop
+loop-again c =
+    let l = c .before .before .before .before .before .before .before .before .loop in
+    let low = c .before .before .before .before .before .before .before .loop-test .taken in
+    let less = one-less (idsOf (l .left)) (rw (l .inv .1) at low) in
+    let others = c .before .rest .ensures .1 in
+    (omega (arith, l .inv .0, less, ap length others), c .first2 .ensures, λ counts. goes-on _ _ _ (idsOf (l .left)) _ (l .given) (l .id) (omega (arith, l .inv .0, less)) low (l .inv .1) others (served-one c counts) (l .inv .2 counts))
+
+returns : tie.Need-returns Inv-loop μ-loop
+returns c = λ counts.
+    let l = c .before .loop in
+    sym (ends _ (idsOf (l .left)) (l .given) (omega (arith, l .inv .0)) (rw (l .inv .1) at (c .loop-test .left))) ∙ l .inv .2 counts
+
+pub serve-all-spec : {M : Type 1} → statement M
+serve-all-spec =
+    tie.close
+    (tie.spec
+    Inv-loop
+    μ-loop
+    first-requires
+    loop-holds
+    cast-i
+    mul-row
+    array-copy-out-row
+    signal-requires
+    element-copy-out-find-place
+    find-place-requires
+    cast-s
+    mul-wheel
+    element-copy-out-wheel
+    cast-wheel
+    shl-wheel
+    mul-wheel-2
+    element-write-wheel
+    mul-wheel-3
+    element-write-wheel-2
+    element-write-wheel-3
+    mul-timers
+    array-set-from-timers
+    rest-requires
+    first-requires-2
+    add-given
+    loop-less
+    loop-again
+    returns)

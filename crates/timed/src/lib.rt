@@ -1,0 +1,198 @@
+// Calls 11 to 13, which change timers and wheel, with the scheduler changed in place.
+use calls::Answer;
+use calls::Kind;
+use calls::Verdict;
+use calls::number;
+use engine::Timer;
+use engine::length_of;
+use engine::state_of;
+use owners::signal;
+use plain::Clock;
+use plain::Counts;
+use plain::finish;
+use plain::refuse;
+use units::Micros;
+use units::Ticks;
+use verdicts::delay_verdict;
+use verdicts::first_of;
+use verdicts::id_verdict;
+use verdicts::ids_verdict;
+use verdicts::stop_verdict;
+use wheel::Due;
+ghost use mathlib.Core.Path.{_≡_};
+ghost use Rattle.wheel.specs.Wheels.{idsOf};
+ghost use Rattle.engine.specs.Models.{startTimerModel, stopTimerModel, serveAllModel, tickModel};
+ghost use Rattle.plain.specs.declared.Counts.{Counts};
+ghost use Rattle.plain.specs.Standing.{engineIn, steppedIn};
+ghost use Rattle.timed.specs.Serving.{placeOf, servedIn};
+
+// The timers, wheel and tick count that follow, and the answer.
+pub struct Timed {
+    pub clock: Clock,
+    pub answer: Answer,
+}
+
+// The timers and wheel that follow, and how many timers were served.
+struct Served {
+    clock: Clock,
+    given: u16,
+}
+
+// Where a timer is hung and with how many turns; spoke 255 for nowhere.
+struct Place {
+    spoke: u8,
+    turns: u16,
+}
+
+// The place of a timer that is on spoke now and comes due after length ticks: nowhere if it hangs already, or for no ticks.
+fn find_place(now: u8, position: u8, length: u16) -> Place
+    ensures { λ r. ⌜ r ≡ placeOf now position length ⌝ }
+{
+    if now < 64 {
+        return Place {
+            spoke: 255,
+            turns: 0,
+        };
+    }
+    if length == 0 {
+        return Place {
+            spoke: 255,
+            turns: 0,
+        };
+    }
+    let at = (position as u32 + length as u32) % 64;
+    Place {
+        spoke: at as u8,
+        turns: (length - 1) / 64,
+    }
+}
+
+// Call 11.
+pub fn start_timer(
+    cells: &mut [u8; 1281],
+    mut clock: Clock,
+    counts: Counts,
+    id: u8,
+    c: u8,
+    kind: Kind,
+    v: Micros,
+) -> Timed
+    ensures { λ r. ⌜ steppedIn (now (cells .exit)) (r .clock) counts (r .answer) ≡ startTimerModel (engineIn (now (cells .entry)) clock counts) id c kind v ⌝ }
+{
+    let i = (id % 32) as usize;
+    let row = clock.timers[i];
+    let ids = ids_verdict(counts.started, counts.clocks, id, counts.conditions, c);
+    let delay = delay_verdict(v, row.state);
+    let verdict = first_of(ids, delay);
+    let n = number(verdict);
+    if n != 0 {
+        let answer = refuse(cells, verdict);
+        return Timed { clock, answer };
+    }
+    let length = length_of(v);
+    let state = state_of(kind);
+    clock.timers[i] = Timer {
+        state,
+        condition: c,
+        length,
+    };
+    let wheel = clock.wheel;
+    let after = wheel.start(id, Ticks(length));
+    clock.wheel = after;
+    let answer = finish(cells, counts, 255, false);
+    Timed { clock, answer }
+}
+
+// Call 12.
+pub fn stop_timer(cells: &mut [u8; 1281], mut clock: Clock, counts: Counts, id: u8) -> Timed
+    ensures { λ r. ⌜ steppedIn (now (cells .exit)) (r .clock) counts (r .answer) ≡ stopTimerModel (engineIn (now (cells .entry)) clock counts) id ⌝ }
+{
+    let i = (id % 32) as usize;
+    let row = clock.timers[i];
+    let ids = id_verdict(counts.started, counts.clocks, id);
+    let state = stop_verdict(row.state);
+    let verdict = first_of(ids, state);
+    let n = number(verdict);
+    if n != 0 {
+        let answer = refuse(cells, verdict);
+        return Timed { clock, answer };
+    }
+    clock.timers[i] = Timer {
+        state: 0,
+        condition: 255,
+        length: 0,
+    };
+    let wheel = clock.wheel;
+    let after = wheel.stop(id);
+    clock.wheel = after;
+    let answer = finish(cells, counts, 255, false);
+    Timed { clock, answer }
+}
+
+// The timers that have come due are served in order of id: each signals its condition variable, a periodic one is hung again, a one-shot is stopped.
+fn serve_all(cells: &mut [u8; 1281], clock: Clock, due: Due) -> Served
+    ensures { λ r. ⌜ ((counts : Counts) → servedIn (now (cells .exit)) (r .clock) counts (r .given) ≡ serveAllModel 32 0 (engineIn (now (cells .entry)) clock counts) (idsOf due)) ⌝ }
+{
+    let mut timers = clock.timers;
+    let mut wheel = clock.wheel;
+    let mut left = due;
+    let mut id = due.first();
+    let mut given: u16 = 0;
+    while id < 32 {
+        let i = id as usize;
+        let row = timers[i];
+        signal(cells, row.condition);
+        if row.state == 2 {
+            let place = find_place(wheel.spoke[i], wheel.position, row.length);
+            if place.spoke < 64 {
+                let s = place.spoke as usize;
+                wheel.spokes[s] = wheel.spokes[s] | 1u32 << id;
+                wheel.turns[i] = place.turns;
+                wheel.spoke[i] = place.spoke;
+            }
+        } else {
+            timers[i] = Timer {
+                state: 0,
+                condition: 255,
+                length: 0,
+            };
+        }
+        left = left.rest();
+        id = left.first();
+        given += 1;
+    }
+    let clock = Clock {
+        timers,
+        wheel,
+        count: clock.count,
+    };
+    Served { clock, given }
+}
+
+// Call 13.
+pub fn tick(cells: &mut [u8; 1281], mut clock: Clock, counts: Counts) -> Timed
+    ensures { λ r. ⌜ steppedIn (now (cells .exit)) (r .clock) counts (r .answer) ≡ tickModel (engineIn (now (cells .entry)) clock counts) ⌝ }
+{
+    if !counts.started {
+        let answer = refuse(cells, Verdict::Stopped);
+        return Timed { clock, answer };
+    }
+    let wheel = clock.wheel;
+    let ticked = wheel.tick();
+    let after = ticked.wheel;
+    let due = ticked.due;
+    clock.wheel = after;
+    clock.count = ((clock.count as u64 + 1) % 4294967296) as u32;
+    let first = due.first();
+    if 32 <= first {
+        let answer = finish(cells, counts, 0, true);
+        return Timed { clock, answer };
+    }
+    let served = serve_all(cells, clock, due);
+    let later = served.clock;
+    let answer = finish(cells, counts, served.given, true);
+    Timed {
+        clock: later,
+        answer,
+    }
+}

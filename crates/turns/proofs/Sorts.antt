@@ -1,0 +1,90 @@
+-- A call or row done as its sort has it is the call or row done, also on an engine that is taken apart for it and put together again.
+-- Assumes nothing.
+use Prim.Native.Nat.{ℕ}
+use mathlib.Core.Path.{_≡_, refl, sym, ap, _∙_}
+use mathlib.Core.Bool.{true, false, true≢false}
+use mathlib.Core.List.{List}
+use Rattle.calls.specs.declared.Answer.{Answer}
+use Rattle.calls.specs.declared.Call.{Call}
+use Rattle.calls.specs.declared.Call.the-variants.{Start, CreateThread, CreateMutex, CreateCondition, CreateTimer, Acquire, Release, Wait, Signal, Broadcast, StartTimer, StopTimer, Tick}
+use Rattle.calls.specs.declared.Decoded.{Decoded}
+use Rattle.calls.specs.declared.Decoded.the-variants.{Taken, WrongForm}
+use Rattle.cells.specs.Cells.{schedulerIn}
+use Rattle.engine.specs.declared.Engine.{Engine}
+use Rattle.engine.specs.Models.{refusedModel, stepModel}
+use Rattle.plain.specs.declared.Clock.{Clock}
+use Rattle.plain.specs.declared.Counts.{Counts}
+use Rattle.plain.specs.Standing.{engineIn, steppedIn, plainModel}
+use Rattle.turns.specs.Turning.{decodedModel, onTimers, isTimed, plainRow, timedModel, timedRow, clockOf, countsOf}
+
+-- a call that is not on timers
+pub plain-steps : (x : Engine) (call : Call) → onTimers call ≡ false → plainModel x call ≡ stepModel x call
+unfolding onTimers plainModel
+plain-steps x Start e = refl
+plain-steps x (CreateThread b) e = refl
+plain-steps x (CreateMutex b) e = refl
+plain-steps x CreateCondition e = refl
+plain-steps x CreateTimer e = refl
+plain-steps x (Acquire m) e = refl
+plain-steps x (Release m) e = refl
+plain-steps x (Wait c m) e = refl
+plain-steps x (Signal c) e = refl
+plain-steps x (Broadcast c) e = refl
+plain-steps x (StartTimer i c k v) e = absurd (true≢false e)
+plain-steps x (StopTimer i) e = absurd (true≢false e)
+plain-steps x Tick e = absurd (true≢false e)
+
+-- a call on timers
+pub timed-steps : (x : Engine) (call : Call) → onTimers call ≡ true → timedModel x call ≡ stepModel x call
+unfolding onTimers timedModel
+timed-steps x Start e = absurd (true≢false (sym e))
+timed-steps x (CreateThread b) e = absurd (true≢false (sym e))
+timed-steps x (CreateMutex b) e = absurd (true≢false (sym e))
+timed-steps x CreateCondition e = absurd (true≢false (sym e))
+timed-steps x CreateTimer e = absurd (true≢false (sym e))
+timed-steps x (Acquire m) e = absurd (true≢false (sym e))
+timed-steps x (Release m) e = absurd (true≢false (sym e))
+timed-steps x (Wait c m) e = absurd (true≢false (sym e))
+timed-steps x (Signal c) e = absurd (true≢false (sym e))
+timed-steps x (Broadcast c) e = absurd (true≢false (sym e))
+timed-steps x (StartTimer i c k v) e = refl
+timed-steps x (StopTimer i) e = refl
+timed-steps x Tick e = refl
+
+-- a row that is no call on timers
+pub plain-turns : (x : Engine) (d : Decoded) → isTimed d ≡ false → plainRow x d ≡ decodedModel x d
+unfolding isTimed plainRow decodedModel refusedModel
+plain-turns x WrongForm e = refl
+plain-turns x (Taken call) e = plain-steps x call e
+
+-- a row that is
+pub timed-turns : (x : Engine) (d : Decoded) → isTimed d ≡ true → timedRow x d ≡ decodedModel x d
+unfolding isTimed timedRow decodedModel
+timed-turns x WrongForm e = absurd (true≢false (sym e))
+timed-turns x (Taken call) e = timed-steps x call e
+
+-- ---- an engine taken apart, changed, and put together
+
+-- taken apart it is the same
+pub apart : (x : Engine) (k : List ℕ) (t : Clock) (n : Counts) → schedulerIn k ≡ x .scheduler → t ≡ clockOf x → n ≡ countsOf x → engineIn k t n ≡ x
+apart x k t n cells clock counts = λ i. record {
+  scheduler = cells i;
+  timers = clock i .timers;
+  wheel = clock i .wheel;
+  started = counts i .started;
+  threads = counts i .threads;
+  mutexes = counts i .mutexes;
+  conditions = counts i .conditions;
+  clocks = counts i .clocks;
+  count = clock i .count;
+}
+
+module _ (x : Engine) (call : Call) (k z : List ℕ) (t : Clock) (n : Counts) (a : Answer) (e : Engine)
+    (cells : schedulerIn k ≡ x .scheduler) (clock : t ≡ clockOf x) (counts : n ≡ countsOf x) where
+  -- a call on timers
+  pub timed-done : (u : Clock) → onTimers call ≡ true → steppedIn z u n a ≡ timedModel (engineIn k t n) call → e ≡ engineIn z u n → record { engine = e; answer = a } ≡ stepModel x call
+  timed-done u h done put = ap (λ y. record { engine = y; answer = a }) put ∙ done ∙ ap (λ y. timedModel y call) (apart x k t n cells clock counts) ∙ timed-steps x call h
+
+  -- another call
+  pub plain-done : (m : Counts) → onTimers call ≡ false → steppedIn z t m a ≡ plainModel (engineIn k t n) call → e ≡ engineIn z t m → record { engine = e; answer = a } ≡ stepModel x call
+  plain-done m h done put = ap (λ y. record { engine = y; answer = a }) put ∙ done ∙ ap (λ y. plainModel y call) (apart x k t n cells clock counts) ∙ plain-steps x call h

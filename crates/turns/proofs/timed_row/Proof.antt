@@ -1,0 +1,45 @@
+use borrow.Author.Needs.{needs}
+use Rattle.turns.specs.Turning.{timedRow}
+use Rattle.turns.proofs.timed_row.Statement.{statement}
+use Rattle.turns.proofs.timed_row.Tie as tie
+use Rattle.turns.proofs.timed_row.Reads as reads
+use Rattle.turns.proofs.timed_row.Lts as lts
+use Rattle.turns.proofs.not_timed.Reads as not-timed-reads
+use Rattle.turns.proofs.timed_call.Reads as timed-call-reads
+
+-- src/lib.rt:155:24
+enum-known-decoded : tie.Need-enum-known-decoded
+enum-known-decoded c = search needs
+
+-- src/lib.rt:156:26
+enum-told : tie.Need-enum-told
+enum-told c = search needs
+
+-- src/lib.rt:156:9
+not-timed-requires : tie.Need-not-timed-requires
+not-timed-requires c κs = search needs
+
+-- src/lib.rt:156:9
+returns : tie.Need-returns
+unfolding timedRow
+returns c = rw (c .before .before .enum-told .given .1) (c .not-timed .ensures _)
+
+-- src/lib.rt:158:5
+timed-call-requires : tie.Need-timed-call-requires
+timed-call-requires c κs = search needs
+
+-- src/lib.rt:152:1
+returns-2 : tie.Need-returns-2
+unfolding timedRow
+returns-2 c = rw (c .before .before .before .decoded .given .1) (c .timed-call .ensures)
+
+pub timed-row-spec : {M : Type 1} → statement M
+timed-row-spec =
+    tie.close
+    (tie.spec
+    enum-known-decoded
+    enum-told
+    not-timed-requires
+    returns
+    timed-call-requires
+    returns-2)
