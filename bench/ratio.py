@@ -77,10 +77,10 @@ def compare_runs(plain: list[str], proved: list[str], mix: pathlib.Path, rounds:
 def main() -> None:
     """Builds both sides and prints the two tables."""
     rounds = int(sys.argv[1]) if len(sys.argv) > 1 else 5
-    run(["rt", "staticlib", "rows"])
+    run(["rt", "staticlib", "tally"])
     run(["rt", "check", "run"])
     with tempfile.TemporaryDirectory() as room:
-        library = HERE.parent / "target" / "staticlib" / "librows.a"
+        library = HERE.parent / "target" / "staticlib" / "libtally.a"
         start = run([str(HERE / "build"), room, str(library)]).splitlines()[-1].split(f"{room}/x86-64/")[0].split()
         run(["python3", str(HERE / "mixes.py"), "--write", f"{room}/mixes"])
         print(f"{'mix':<10} {'C, ns':>10} {'kernel, ns':>10} {'ratio':>8}")

@@ -20,6 +20,8 @@ PAGE = TOP / "docs" / "PROMISES.md"
 HEADING = "| Function | Promise | One result by |"
 EXCEPTIONS = {"reading::open": "`form`; the page is promised for right form alone, and load reads it then only"}
 OUTSIDE = "files"
+# The array after a call, or made by it, as the scheduler that it stands for.
+IN_PLACE = re.compile(r"(schedulerIn|steppedIn|signalledIn) \(now \(cells \.exit\)\)|schedulerIn r ≡")
 
 
 def crates() -> List[str]:
@@ -97,6 +99,8 @@ def one_result(name: str, promise: str) -> str:
         return EXCEPTIONS[name]
     if name.startswith(OUTSIDE + "::") and "≡" not in promise:
         return "open: it speaks to the system, which decides"
+    if IN_PLACE.search(promise):
+        return "`bytes-once`"
     if "Saves " in promise:
         return "`saves-once`"
     if "Steps " in promise:

@@ -1,10 +1,10 @@
 -- The stores of each function that changes a row, a link, a queue, a tie or the running thread, as the change of the scheduler.
 -- Assumes nothing.
 use Prim.Native.Nat.{ℕ, _+_, _*_, _%_, _<_, _≤_}
-use mathlib.Core.Path.{_≡_, refl, sym, ap, _∙_}
+use mathlib.Core.Path.{_≡_, _∙_}
 use mathlib.Core.List.{List}
 use native.Mathlib.Omega.{arith}
-use lib.ListN.{length, getD, set, length-set}
+use lib.ListN.{length, set, length-set}
 use lib.Seq.{getD-set-same, getD-set-other}
 use Rattle.scheduler.specs.Models.{withMutex, withTie}
 use Rattle.cells.specs.Cells.{cell, schedulerIn}

@@ -8,7 +8,6 @@ use Rattle.queue.specs.declared.Queue.{Queue}
 use Rattle.queue.specs.declared.Queues.{Queues}
 use Rattle.queue.specs.Models.{levelModel, withLevelModel}
 use Rattle.parts.specs.declared.Thread.{Thread}
-use Rattle.parts.specs.declared.Threads.{Threads}
 use Rattle.parts.specs.Models.{withRow}
 use Rattle.scheduler.specs.declared.Scheduler.{Scheduler}
 use Rattle.scheduler.specs.Models.{withThreads, noSet}

@@ -20,7 +20,7 @@ use Rattle.calls.specs.declared.Kind.{Kind}
 use Rattle.calls.specs.declared.Kind.the-variants.{OneShot, Periodic}
 use Rattle.calls.specs.Answers.{numberOf}
 use Rattle.scheduler.specs.declared.Scheduler as scheduled
-use Rattle.scheduler.specs.declared.Signalled.{Signalled}
+use Rattle.scheduler.specs.Models.{Signalled}
 use Rattle.scheduler.specs.Models as scheduler
 use Rattle.wheel.specs.declared.Wheel.{Wheel}
 use Rattle.wheel.specs.Hung as hung

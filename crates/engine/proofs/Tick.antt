@@ -18,7 +18,7 @@ use Rattle.laws.specs.Lists.{by-below, tabulate, getD-tabulate, length-tabulate
 use Rattle.calls.specs.declared.Call.the-variants.{Tick}
 use Rattle.calls.specs.declared.Verdict.the-variants.{Done, Stopped}
 use Rattle.calls.specs.Answers.{numberOf}
-use Rattle.scheduler.specs.declared.Signalled.{Signalled}
+use Rattle.scheduler.specs.Models.{Signalled}
 use Rattle.scheduler.specs.Models as scheduler
 use Rattle.wheel.specs.declared.Ticked.{Ticked}
 use Rattle.wheel.specs.Hung as hung
@@ -45,7 +45,7 @@ use Rattle.meaning.proofs.Signals.{signal-stands}
 use Rattle.meaning.proofs.Sizes.{Sizes, sizes-each}
 use Rattle.engine.specs.declared.Timer as engine
 use Rattle.engine.specs.declared.Engine.{Engine}
-use Rattle.engine.specs.declared.Effect as served
+use Rattle.engine.specs.Models as served
 use Rattle.engine.specs.Models.{stoppedRow, noTimer, timerOf, withScheduler, withTimer, withWheel, answeredModel, refusedModel, serveModel, serveAllModel, turned, tickModel}
 use Rattle.engine.specs.Stands.{timerIn, hungOf, engineOf, steppedOf}
 use Rattle.engine.proofs.Answers.{refused-stands, answered-stands}

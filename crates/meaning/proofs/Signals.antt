@@ -15,12 +15,12 @@ use Rattle.queue.specs.declared.Queues.{Queues}
 use Rattle.queue.specs.Stands.{linkOf, linksOf, queuesOf}
 use Rattle.parts.specs.declared.Head.{Head}
 use Rattle.parts.specs.declared.Waiting.{Waiting}
-use Rattle.parts.specs.declared.Ran.{Ran}
+use Rattle.parts.specs.Models.{Ran}
 use Rattle.parts.specs.Models as parts
 use Rattle.parts.specs.Models.{headModel, leaveModelIn}
 use Rattle.scheduler.specs.declared.Mutex as scheduler
 use Rattle.scheduler.specs.declared.Scheduler as scheduled
-use Rattle.scheduler.specs.declared.Signalled.{Signalled}
+use Rattle.scheduler.specs.Models.{Signalled}
 use Rattle.scheduler.specs.Models as models
 use Rattle.scheduler.specs.Models.{mutexOf, onConditionOf, ownModel, waitForModel, readyModel, wakeModel, leaveConditionModel, untieModel, signalToModel, signalModel, broadcastModel, createModel, createMutexModel, withRan, runFirstModel, chooseNextModel}
 use Rattle.rules.specs.Queues.{First, nobody, somebody, emptySet, firstLeaves}

@@ -16,7 +16,7 @@ use Rattle.parts.specs.declared.Thread as parts
 use Rattle.parts.specs.declared.Threads.{Threads}
 use Rattle.parts.specs.declared.Joined.{Joined}
 use Rattle.parts.specs.declared.Head.{Head}
-use Rattle.parts.specs.declared.Ran.{Ran}
+use Rattle.parts.specs.Models.{Ran}
 use Rattle.parts.specs.declared.Waiting.{Waiting}
 use Rattle.parts.specs.Models.{joinModel, joinFrontModel, partModel, headModel, blank, rowOf, standModel, withReady, arriveModel, arriveInFrontModel, withLinks, waitModel, leaveModelIn, ran, runModel, runFirstModel, chooseNextModel}
 use Rattle.rules.specs.Queues.{QueueSet, First, nobody, somebody, toBack, toFront, firstLeaves, first}

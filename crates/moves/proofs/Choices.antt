@@ -1,13 +1,13 @@
 -- The choice of the next thread by its tests, on what was read for them.
 -- Assumes nothing.
 use Prim.Native.Nat.{ℕ, _<_, _≤_}
-use mathlib.Core.Path.{_≡_, refl, sym, ap, _∙_, subst}
+use mathlib.Core.Path.{_≡_, refl, ap, _∙_}
 use mathlib.Core.Bool.{Bool, true, false}
 use borrow.Author.Tests.{lt-ltb, le-ltb, le-leb, lt-leb, eq-eqb, ne-eqb}
 use Rattle.queue.specs.Models.{highestModel}
 use Rattle.parts.specs.declared.Thread.{Thread}
 use Rattle.parts.specs.Models as parts
-use Rattle.parts.specs.Models.{headModel, rowOf, arriveModel, arriveInFrontModel}
+use Rattle.parts.specs.Models.{headModel, rowOf, arriveInFrontModel}
 use Rattle.scheduler.specs.declared.Scheduler.{Scheduler}
 use Rattle.scheduler.specs.Models.{withThreads, readyModel, runFirstModel, chooseNextModel}
 use Rattle.cells.specs.Changes.{setOf}

@@ -5,8 +5,7 @@ use mathlib.Core.Path.{_≡_, refl, sym, ap, _∙_}
 use native.Mathlib.Omega.{arith}
 use lib.ListN.{getD, set}
 use lib.Seq.{set-getD}
-use borrow.Author.Tests.{lt-ltb, le-ltb, eq-eqb, ne-eqb}
-use Rattle.queue.specs.declared.Queue.{Queue}
+use borrow.Author.Tests.{lt-ltb, le-ltb, ne-eqb}
 use Rattle.queue.specs.declared.Queues.{Queues}
 use Rattle.queue.specs.Models.{emptyQueue, levelModel, withLevelModel, backModel, frontModel, leaveModel}
 use Rattle.parts.specs.Models.{joinModel, joinFrontModel, partModel}

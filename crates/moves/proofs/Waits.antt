@@ -1,14 +1,14 @@
 -- A thread that joins the set of a mutex or of a condition variable and stands there: as the definition has it.
 -- Assumes nothing.
 use Prim.Native.Nat.{ℕ, _+_, _%_}
-use mathlib.Core.Path.{_≡_, refl, sym, ap, _∙_}
+use mathlib.Core.Path.{_≡_, ap, _∙_}
 use Rattle.queue.specs.declared.Queues.{Queues}
 use Rattle.parts.specs.declared.Joined.{Joined}
 use Rattle.parts.specs.Models as parts
 use Rattle.parts.specs.Models.{rowOf, joinModel, partModel, standModel, withLinks, leaveModelIn}
 use Rattle.scheduler.specs.declared.Scheduler.{Scheduler}
 use Rattle.scheduler.specs.Models.{withThreads, forMutexOf, onConditionOf, withForMutex, withOnCondition, waitForModel, waitOnModel}
-use Rattle.cells.specs.Changes.{setOf, withSet}
+use Rattle.cells.specs.Changes.{setOf}
 use Rattle.moves.specs.Joining.{linksOf, withJoined}
 use Rattle.moves.proofs.Joins.{for-mutex, on-condition, with-for-mutex, with-on-condition}
 

@@ -1,11 +1,11 @@
 -- Acquiring and signalling by their tests, on what was read for them.
 -- Assumes nothing.
 use Prim.Native.Nat.{ℕ, _+_, _%_, _<_, _≤_, max}
-use mathlib.Core.Path.{_≡_, refl, sym, ap, _∙_, subst}
+use mathlib.Core.Path.{_≡_, refl, sym, ap, _∙_}
 use mathlib.Core.Bool.{Bool, true, false, cond}
 use mathlib.Core.List.{List}
 use native.Mathlib.Omega.{arith}
-use lib.ListN.{length, getD}
+use lib.ListN.{getD}
 use lib.Seq.{getD-set-same}
 use lib.Dec.{leb}
 use borrow.Author.Tests.{lt-ltb, le-leb, lt-leb, eq-eqb, ne-eqb}
@@ -17,8 +17,8 @@ use Rattle.parts.specs.declared.Thread.{Thread}
 use Rattle.parts.specs.Models.{blank, rowOf, liftModel, headModel, leaveModelIn}
 use Rattle.scheduler.specs.declared.Mutex.{Mutex}
 use Rattle.scheduler.specs.declared.Scheduler.{Scheduler}
-use Rattle.scheduler.specs.declared.Signalled.{Signalled}
-use Rattle.scheduler.specs.Models.{noSet, mutexOf, onConditionOf, withOnCondition, withTie, highestIn, settleModel, ownModel, recountModel, waitForModel, acquireModel, wakeModel, leaveConditionModel, untieModel, signalToModel, signalModel}
+use Rattle.scheduler.specs.Models.{Signalled}
+use Rattle.scheduler.specs.Models.{noSet, mutexOf, onConditionOf, withTie, highestIn, settleModel, ownModel, recountModel, waitForModel, acquireModel, wakeModel, leaveConditionModel, untieModel, signalToModel, signalModel}
 use Rattle.cells.specs.Cells.{setIn, schedulerIn}
 use Rattle.cells.specs.Changes.{setOf, tieOf, withThread}
 use Rattle.moves.proofs.Joins.{on-condition}

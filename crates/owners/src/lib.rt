@@ -15,33 +15,14 @@ use moves::wait_for;
 use moves::wait_on;
 use parts::Thread;
 use scheduler::Mutex;
+use scheduler::ceiling_for;
+use scheduler::larger;
 use verdicts::owned_one;
 ghost use mathlib.Core.Path.{_≡_};
-ghost use Prim.Native.Nat.{max};
-ghost use Rattle.scheduler.specs.Models.{ceilingFor, highestIn, settleModel, ownModel, recountModel, createModel, passModel, acquireModel, releaseModel, waitModel, wakeModel, signalModel, broadcastModel, createMutexModel};
+ghost use Rattle.scheduler.specs.Models.{highestIn, settleModel, ownModel, recountModel, createModel, passModel, acquireModel, releaseModel, waitModel, wakeModel, signalModel, broadcastModel, createMutexModel};
 ghost use Rattle.verdicts.specs.Models.{ownedIn};
 ghost use Rattle.cells.specs.Cells.{schedulerIn};
 ghost use Rattle.owners.specs.Leaving.{signalledIn};
-
-// The larger of two.
-fn larger(a: u8, b: u8) -> u8
-    ensures { λ r. ⌜ r ≡ max a b ⌝ }
-{
-    if a < b {
-        return b;
-    }
-    a
-}
-
-// The ceiling of a mutex that thread t owns, or 0.
-fn ceiling_for(row: Mutex, t: u8) -> u8
-    ensures { λ r. ⌜ r ≡ ceilingFor row t ⌝ }
-{
-    if row.owner == t {
-        return row.ceiling;
-    }
-    0
-}
 
 // The largest ceiling of the mutexes that thread t owns, or 0.
 fn highest_ceiling(cells: &[u8; 1281], t: u8) -> u8
@@ -176,8 +157,8 @@ pub fn wait(cells: &mut [u8; 1281], c: u8, m: u8)
 fn wake(cells: &mut [u8; 1281], m: u8, t: u8)
     ensures { λ _. ⌜ schedulerIn (now (cells .exit)) ≡ wakeModel (schedulerIn (now (cells .entry))) m t ⌝ }
 {
-    let row = mutex_at(cells, m);
-    if row.owner == 255 {
+    let mutex = mutex_at(cells, m);
+    if mutex.owner == 255 {
         own(cells, m, t, 1);
         arrive(cells, t);
         return;

@@ -17,7 +17,7 @@ use Rattle.verdicts.specs.Models.{acquireVerdict, releaseVerdict, heldVerdict, 
 use Rattle.cells.specs.Changes.{tieOf}
 use Rattle.engine.specs.declared.Engine.{Engine}
 use Rattle.engine.specs.declared.Stepped.{Stepped}
-use Rattle.engine.specs.Models.{withScheduler, refusedModel, answeredModel, judged, acquireModel, releaseModel, waitModel}
+use Rattle.engine.specs.Models.{withScheduler, refusedModel, answeredModel, judged}
 
 -- ---- the end of a call
 

@@ -1,3 +1,2 @@
 pub mod Broadcasting
 pub mod Searching
-pub mod Settling

@@ -11,12 +11,16 @@ use Rattle.parts.specs.declared.Thread.{Thread}
 use Rattle.parts.specs.declared.Threads.{Threads}
 use Rattle.parts.specs.declared.Head.{Head}
 use Rattle.parts.specs.declared.Waiting.{Waiting}
-use Rattle.parts.specs.declared.Ran.{Ran}
+use Rattle.parts.specs.Models.{Ran}
 use Rattle.parts.specs.Models as parts
 use Rattle.parts.specs.Models.{headModel, rowOf, withRow, liftModel, arriveModel, leaveModelIn}
 use Rattle.scheduler.specs.declared.Mutex.{Mutex}
 use Rattle.scheduler.specs.declared.Scheduler.{Scheduler}
-use Rattle.scheduler.specs.declared.Signalled.{Signalled}
+
+-- the scheduler after signals, and how many threads left the condition variable
+pub record Signalled : Type 0 where
+  pub scheduler : Scheduler
+  pub left : ℕ
 
 -- ---- rows and sets
 
@@ -70,10 +74,6 @@ ceilingFor m t = cond (eqb (m .owner) t) (m .ceiling) 0
 unfoldable pub highestIn : List Mutex → ℕ → ℕ
 highestIn [] t = 0
 highestIn (m ∷ ms) t = max (ceilingFor m t) (highestIn ms t)
-
--- the threads with the stored priority of thread t as it follows from its base and its mutexes
-unfoldable pub settledIn : Threads → List Mutex → ℕ → Threads
-settledIn a mutexes t = cond (ltb t 32) (liftModel a t (max (getD (a .rows) t parts.blank .base) (highestIn mutexes t))) a
 
 -- the stored priority of thread t follows from its base and its mutexes
 unfoldable pub settleModel : Scheduler → ℕ → Scheduler

@@ -1,2 +1,2 @@
 pub mod Serving
-pub mod Calling
+pub mod Ticking

@@ -20,7 +20,7 @@ use Rattle.scheduler.specs.Models.{signalModel}
 use Rattle.cells.specs.Cells.{schedulerIn}
 use Rattle.owners.specs.Leaving.{signalledIn}
 use Rattle.engine.specs.declared.Engine.{Engine}
-use Rattle.engine.specs.declared.Effect.{Effect}
+use Rattle.engine.specs.Models.{Effect}
 use Rattle.engine.specs.declared.Timer.{Timer}
 use Rattle.engine.specs.Models.{noTimer, stoppedRow, serveModel}
 use Rattle.engine.proofs.Dues.{few-among}
@@ -65,6 +65,7 @@ shifted i low = rw (lt-leb 32 i low, shl-exact {a = 1} 1 i 32 (omega arith) (ome
 
 -- a wheel w, a timer i of the 32 with n ticks to go, and the place p that was found for it
 module _ (w : Wheel) (i n : ℕ) (low : i < 32) (p : Place) (found : p ≡ placeOf (getD (w .spoke) i 0) (w .position) n) where
+  -- the place n ticks on
   abbrev here : Place
   here = record { spoke = (w .position + n) % 64; turns = turnsOf n }
 
@@ -102,12 +103,13 @@ module _ (w : Wheel) (i n : ℕ) (low : i < 32) (p : Place) (found : p ≡ place
 -- the array k with timers ts and wheel w, at a tick count, and the row of timer i, which has signalled with the array k′ after it
 module _ (k k′ : List ℕ) (ts : List Timer) (w : Wheel) (count i left : ℕ) (row : Timer) (low : i < 32) (read : row ≡ getD ts i noTimer)
     (signalled : signalledIn k′ left ≡ signalModel (schedulerIn k) (row .condition)) (counts : Counts) where
+  -- the engine before
   abbrev before-it : Engine
   before-it = engineIn k (record { timers = ts; wheel = w; count = count }) counts
 
   -- the engine of these parts
-  abbrev engineOf : Scheduler → List Timer → Wheel → Engine
-  engineOf s rows v = record {
+  abbrev engineWith : Scheduler → List Timer → Wheel → Engine
+  engineWith s rows v = record {
     scheduler = s;
     timers = rows;
     wheel = v;
@@ -119,15 +121,16 @@ module _ (k k′ : List ℕ) (ts : List Timer) (w : Wheel) (count i left : ℕ) 
     count = count;
   }
 
+  -- the id is in the table
   in-table : i % 32 ≡ i
   in-table = omega (arith, low)
 
   -- a periodic one
   pub serves-periodic : (w′ : Wheel) → row .state ≡ 2 → w′ ≡ startedIn w i (row .length) → engineIn k′ (record { timers = ts; wheel = w′; count = count }) counts ≡ serveModel before-it i
   unfolding serveModel
-  serves-periodic w′ h again = rw (in-table, ← read, eq-eqb (row .state) 2 h) (λ j. engineOf (signalled j .scheduler) ts (again j))
+  serves-periodic w′ h again = rw (in-table, ← read, eq-eqb (row .state) 2 h) (λ j. engineWith (signalled j .scheduler) ts (again j))
 
   -- another
   pub serves-other : (row .state ≡ 2 → ⊥) → engineIn k′ (record { timers = set ts i stoppedRow; wheel = w; count = count }) counts ≡ serveModel before-it i
   unfolding serveModel
-  serves-other h = rw (in-table, ← read, ne-eqb (row .state) 2 h) (λ j. engineOf (signalled j .scheduler) (set ts i stoppedRow) w)
+  serves-other h = rw (in-table, ← read, ne-eqb (row .state) 2 h) (λ j. engineWith (signalled j .scheduler) (set ts i stoppedRow) w)

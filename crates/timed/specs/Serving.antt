@@ -5,7 +5,7 @@ use mathlib.Core.Bool.{cond}
 use mathlib.Core.List.{List}
 use lib.Dec.{eqb, ltb}
 use Rattle.wheel.specs.Wheels.{turnsOf}
-use Rattle.engine.specs.declared.Effect.{Effect}
+use Rattle.engine.specs.Models.{Effect}
 use Rattle.plain.specs.declared.Clock.{Clock}
 use Rattle.plain.specs.declared.Counts.{Counts}
 use Rattle.plain.specs.Standing.{engineIn}

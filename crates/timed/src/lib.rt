@@ -44,7 +44,7 @@ struct Place {
     turns: u16,
 }
 
-// The place of a timer that is on spoke now and comes due after length ticks: nowhere if it hangs already, or for no ticks.
+// The place of a timer, length ticks on from the position: nowhere if it hangs now, on a spoke below 64, or for no ticks.
 fn find_place(now: u8, position: u8, length: u16) -> Place
     ensures { λ r. ⌜ r ≡ placeOf now position length ⌝ }
 {

@@ -193,17 +193,3 @@ pub fn owned_one(row: Mutex, t: u8) -> u8
     }
     0
 }
-
-// How many mutexes thread t owns.
-pub fn owned_by(mutexes: [Mutex; 16], t: u8) -> u8
-    ensures { λ r. ⌜ r ≡ ownedIn mutexes t ⌝ }
-{
-    let mut owned: u8 = 0;
-    let mut i: usize = 0;
-    while i < 16 {
-        let row = mutexes[i];
-        owned += owned_one(row, t);
-        i += 1;
-    }
-    owned
-}

@@ -3,8 +3,6 @@ use mathlib.Core.Path.{sym}
 use lib.ListN.{List·getD-eq-default}
 use Rattle.cells.proofs.load.Statement.{statement}
 use Rattle.cells.proofs.load.Tie as tie
-use Rattle.cells.proofs.load.Reads as reads
-use Rattle.cells.proofs.load.Lts as lts
 
 -- src/lib.rt:20:9
 returns : tie.Need-returns

@@ -2,9 +2,6 @@ use borrow.Author.Needs.{needs}
 use Rattle.cells.proofs.Stores.{link-put}
 use Rattle.cells.proofs.put_link.Statement.{statement}
 use Rattle.cells.proofs.put_link.Tie as tie
-use Rattle.cells.proofs.put_link.Reads as reads
-use Rattle.cells.proofs.put_link.Lts as lts
-use Rattle.cells.proofs.store.Reads as store-reads
 
 -- src/lib.rt:70:19
 cast-i : tie.Need-cast-i

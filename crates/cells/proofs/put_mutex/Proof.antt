@@ -2,9 +2,6 @@ use borrow.Author.Needs.{needs}
 use Rattle.cells.proofs.Stores.{mutex-put}
 use Rattle.cells.proofs.put_mutex.Statement.{statement}
 use Rattle.cells.proofs.put_mutex.Tie as tie
-use Rattle.cells.proofs.put_mutex.Reads as reads
-use Rattle.cells.proofs.put_mutex.Lts as lts
-use Rattle.cells.proofs.store.Reads as store-reads
 
 -- src/lib.rt:116:20
 cast-i : tie.Need-cast-i

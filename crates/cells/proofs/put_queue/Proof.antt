@@ -5,9 +5,6 @@ use mathlib.Core.Path.{sym}
 use native.Mathlib.Omega.{arith}
 use Rattle.cells.proofs.put_queue.Statement.{statement}
 use Rattle.cells.proofs.put_queue.Tie as tie
-use Rattle.cells.proofs.put_queue.Reads as reads
-use Rattle.cells.proofs.put_queue.Lts as lts
-use Rattle.cells.proofs.store.Reads as store-reads
 
 -- src/lib.rt:93:9
 returns : tie.Need-returns

@@ -2,9 +2,6 @@ use borrow.Author.Needs.{needs}
 use Rattle.cells.proofs.Stores.{running-put}
 use Rattle.cells.proofs.put_running.Statement.{statement}
 use Rattle.cells.proofs.put_running.Tie as tie
-use Rattle.cells.proofs.put_running.Reads as reads
-use Rattle.cells.proofs.put_running.Lts as lts
-use Rattle.cells.proofs.store.Reads as store-reads
 
 -- src/lib.rt:149:5
 store-requires : tie.Need-store-requires

@@ -2,9 +2,6 @@ use borrow.Author.Needs.{needs}
 use Rattle.cells.proofs.Stores.{thread-put}
 use Rattle.cells.proofs.put_thread.Statement.{statement}
 use Rattle.cells.proofs.put_thread.Tie as tie
-use Rattle.cells.proofs.put_thread.Reads as reads
-use Rattle.cells.proofs.put_thread.Lts as lts
-use Rattle.cells.proofs.store.Reads as store-reads
 
 -- src/lib.rt:51:13
 cast-i : tie.Need-cast-i

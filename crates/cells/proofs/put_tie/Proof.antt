@@ -2,9 +2,6 @@ use borrow.Author.Needs.{needs}
 use Rattle.cells.proofs.Stores.{tie-put}
 use Rattle.cells.proofs.put_tie.Statement.{statement}
 use Rattle.cells.proofs.put_tie.Tie as tie
-use Rattle.cells.proofs.put_tie.Reads as reads
-use Rattle.cells.proofs.put_tie.Lts as lts
-use Rattle.cells.proofs.store.Reads as store-reads
 
 -- src/lib.rt:134:20
 cast-i : tie.Need-cast-i

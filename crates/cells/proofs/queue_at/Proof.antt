@@ -4,10 +4,6 @@ use native.Mathlib.Omega.{arith}
 use Rattle.cells.proofs.Storing.{queue-read, queue-past}
 use Rattle.cells.proofs.queue_at.Statement.{statement}
 use Rattle.cells.proofs.queue_at.Tie as tie
-use Rattle.cells.proofs.queue_at.Reads as reads
-use Rattle.cells.proofs.queue_at.Lts as lts
-use Rattle.cells.proofs.load.Reads as load-reads
-use Rattle.queue.proofs.Queue.empty.Reads as empty-reads
 
 -- src/lib.rt:79:9
 empty-requires : tie.Need-empty-requires

@@ -2,9 +2,6 @@ use borrow.Author.Needs.{needs}
 use Rattle.cells.specs.Cells.{schedulerIn}
 use Rattle.cells.proofs.running_at.Statement.{statement}
 use Rattle.cells.proofs.running_at.Tie as tie
-use Rattle.cells.proofs.running_at.Reads as reads
-use Rattle.cells.proofs.running_at.Lts as lts
-use Rattle.cells.proofs.load.Reads as load-reads
 
 -- src/lib.rt:142:5
 load-requires : tie.Need-load-requires

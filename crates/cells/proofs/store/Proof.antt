@@ -3,8 +3,6 @@ use mathlib.Core.Path.{sym}
 use lib.Seq.{set-out}
 use Rattle.cells.proofs.store.Statement.{statement}
 use Rattle.cells.proofs.store.Tie as tie
-use Rattle.cells.proofs.store.Reads as reads
-use Rattle.cells.proofs.store.Lts as lts
 
 -- src/lib.rt:30:9
 slice-write-bytes : tie.Need-slice-write-bytes

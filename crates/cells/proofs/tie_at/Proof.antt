@@ -3,9 +3,6 @@ use mathlib.Core.Path.{sym, _∙_}
 use Rattle.cells.proofs.Storing.{tie-read}
 use Rattle.cells.proofs.tie_at.Statement.{statement}
 use Rattle.cells.proofs.tie_at.Tie as tie
-use Rattle.cells.proofs.tie_at.Reads as reads
-use Rattle.cells.proofs.tie_at.Lts as lts
-use Rattle.cells.proofs.load.Reads as load-reads
 
 -- src/lib.rt:126:20
 cast-i : tie.Need-cast-i

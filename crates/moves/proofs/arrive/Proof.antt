@@ -4,11 +4,6 @@ use Rattle.scheduler.specs.Models.{readyModel}
 use Rattle.cells.specs.Changes.{setOf, withSet}
 use Rattle.moves.proofs.arrive.Statement.{statement}
 use Rattle.moves.proofs.arrive.Tie as tie
-use Rattle.moves.proofs.arrive.Reads as reads
-use Rattle.moves.proofs.arrive.Lts as lts
-use Rattle.cells.proofs.thread_at.Reads as thread-at-reads
-use Rattle.moves.proofs.join.Reads as join-reads
-use Rattle.moves.proofs.stand.Reads as stand-reads
 
 -- src/lib.rt:122:9
 thread-at-requires : tie.Need-thread-at-requires

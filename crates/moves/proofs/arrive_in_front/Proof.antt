@@ -3,11 +3,6 @@ use Rattle.parts.specs.Models.{arriveInFrontModel}
 use Rattle.cells.specs.Changes.{setOf, withSet}
 use Rattle.moves.proofs.arrive_in_front.Statement.{statement}
 use Rattle.moves.proofs.arrive_in_front.Tie as tie
-use Rattle.moves.proofs.arrive_in_front.Reads as reads
-use Rattle.moves.proofs.arrive_in_front.Lts as lts
-use Rattle.cells.proofs.thread_at.Reads as thread-at-reads
-use Rattle.moves.proofs.join_front.Reads as join-front-reads
-use Rattle.moves.proofs.stand.Reads as stand-reads
 
 -- src/lib.rt:131:9
 thread-at-requires : tie.Need-thread-at-requires

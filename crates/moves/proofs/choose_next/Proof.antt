@@ -3,14 +3,6 @@ use mathlib.Core.Path.{refl}
 use Rattle.moves.proofs.Choices.{runner-waits, none-ready, higher-ready, equal-ready, lower-ready, stays}
 use Rattle.moves.proofs.choose_next.Statement.{statement}
 use Rattle.moves.proofs.choose_next.Tie as tie
-use Rattle.moves.proofs.choose_next.Reads as reads
-use Rattle.moves.proofs.choose_next.Lts as lts
-use Rattle.cells.proofs.highest_at.Reads as highest-at-reads
-use Rattle.cells.proofs.running_at.Reads as running-at-reads
-use Rattle.cells.proofs.thread_at.Reads as thread-at-reads
-use Rattle.moves.proofs.arrive.Reads as arrive-reads
-use Rattle.moves.proofs.arrive_in_front.Reads as arrive-in-front-reads
-use Rattle.moves.proofs.run_first.Reads as run-first-reads
 
 -- src/lib.rt:153:9
 running-at-requires : tie.Need-running-at-requires

@@ -8,10 +8,6 @@ use Rattle.queue.specs.Models.{levelModel}
 use Rattle.parts.specs.Models.{headModel}
 use Rattle.moves.proofs.head.Statement.{statement}
 use Rattle.moves.proofs.head.Tie as tie
-use Rattle.moves.proofs.head.Reads as reads
-use Rattle.moves.proofs.head.Lts as lts
-use Rattle.cells.proofs.highest_at.Reads as highest-at-reads
-use Rattle.cells.proofs.queue_at.Reads as queue-at-reads
 
 -- src/lib.rt:96:9
 highest-at-requires : tie.Need-highest-at-requires

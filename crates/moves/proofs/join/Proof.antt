@@ -5,11 +5,6 @@ use Rattle.queue.specs.declared.Queue.{Queue}
 use Rattle.moves.proofs.Joins.{join-none, join-behind, join-alone}
 use Rattle.moves.proofs.join.Statement.{statement}
 use Rattle.moves.proofs.join.Tie as tie
-use Rattle.moves.proofs.join.Reads as reads
-use Rattle.moves.proofs.join.Lts as lts
-use Rattle.cells.proofs.put_link.Reads as put-link-reads
-use Rattle.cells.proofs.put_queue.Reads as put-queue-reads
-use Rattle.cells.proofs.queue_at.Reads as queue-at-reads
 
 -- src/lib.rt:34:9
 returns : tie.Need-returns

@@ -7,13 +7,6 @@ use Rattle.queue.specs.declared.Queue.{Queue}
 use Rattle.moves.proofs.Joins.{part-none, part-first, part-last}
 use Rattle.moves.proofs.part.Statement.{statement}
 use Rattle.moves.proofs.part.Tie as tie
-use Rattle.moves.proofs.part.Reads as reads
-use Rattle.moves.proofs.part.Lts as lts
-use Rattle.cells.proofs.link_at.Reads as link-at-reads
-use Rattle.cells.proofs.put_link.Reads as put-link-reads
-use Rattle.cells.proofs.put_queue.Reads as put-queue-reads
-use Rattle.cells.proofs.queue_at.Reads as queue-at-reads
-use Rattle.queue.proofs.Queue.empty.Reads as empty-reads
 
 -- src/lib.rt:75:9
 queue-at-requires : tie.Need-queue-at-requires

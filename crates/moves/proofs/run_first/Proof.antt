@@ -8,12 +8,6 @@ use Rattle.cells.specs.Cells.{schedulerIn}
 use Rattle.cells.specs.Changes.{setOf, withSet}
 use Rattle.moves.proofs.run_first.Statement.{statement}
 use Rattle.moves.proofs.run_first.Tie as tie
-use Rattle.moves.proofs.run_first.Reads as reads
-use Rattle.moves.proofs.run_first.Lts as lts
-use Rattle.cells.proofs.put_running.Reads as put-running-reads
-use Rattle.moves.proofs.head.Reads as head-reads
-use Rattle.moves.proofs.part.Reads as part-reads
-use Rattle.moves.proofs.stand.Reads as stand-reads
 
 -- src/lib.rt:140:9
 head-requires : tie.Need-head-requires

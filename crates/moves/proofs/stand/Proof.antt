@@ -2,10 +2,6 @@ use borrow.Author.Needs.{needs}
 use Rattle.parts.specs.Models.{standModel}
 use Rattle.moves.proofs.stand.Statement.{statement}
 use Rattle.moves.proofs.stand.Tie as tie
-use Rattle.moves.proofs.stand.Reads as reads
-use Rattle.moves.proofs.stand.Lts as lts
-use Rattle.cells.proofs.put_thread.Reads as put-thread-reads
-use Rattle.cells.proofs.thread_at.Reads as thread-at-reads
 
 -- src/lib.rt:108:9
 thread-at-requires : tie.Need-thread-at-requires

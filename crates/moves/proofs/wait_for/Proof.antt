@@ -3,11 +3,6 @@ use mathlib.Core.Path.{refl}
 use Rattle.moves.proofs.Waits.{waits-for}
 use Rattle.moves.proofs.wait_for.Statement.{statement}
 use Rattle.moves.proofs.wait_for.Tie as tie
-use Rattle.moves.proofs.wait_for.Reads as reads
-use Rattle.moves.proofs.wait_for.Lts as lts
-use Rattle.cells.proofs.thread_at.Reads as thread-at-reads
-use Rattle.moves.proofs.join.Reads as join-reads
-use Rattle.moves.proofs.stand.Reads as stand-reads
 
 -- src/lib.rt:180:9
 thread-at-requires : tie.Need-thread-at-requires

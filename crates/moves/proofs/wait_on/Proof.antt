@@ -3,11 +3,6 @@ use mathlib.Core.Path.{refl}
 use Rattle.moves.proofs.Waits.{waits-on}
 use Rattle.moves.proofs.wait_on.Statement.{statement}
 use Rattle.moves.proofs.wait_on.Tie as tie
-use Rattle.moves.proofs.wait_on.Reads as reads
-use Rattle.moves.proofs.wait_on.Lts as lts
-use Rattle.cells.proofs.thread_at.Reads as thread-at-reads
-use Rattle.moves.proofs.join.Reads as join-reads
-use Rattle.moves.proofs.stand.Reads as stand-reads
 
 -- src/lib.rt:189:9
 thread-at-requires : tie.Need-thread-at-requires

@@ -2,13 +2,6 @@ use borrow.Author.Needs.{needs}
 use Rattle.owners.proofs.Calls.{acquire-again, acquire-free, acquire-waits}
 use Rattle.owners.proofs.acquire.Statement.{statement}
 use Rattle.owners.proofs.acquire.Tie as tie
-use Rattle.owners.proofs.acquire.Reads as reads
-use Rattle.owners.proofs.acquire.Lts as lts
-use Rattle.cells.proofs.mutex_at.Reads as mutex-at-reads
-use Rattle.cells.proofs.running_at.Reads as running-at-reads
-use Rattle.moves.proofs.wait_for.Reads as wait-for-reads
-use Rattle.owners.proofs.own.Reads as own-reads
-use Rattle.owners.proofs.recount.Reads as recount-reads
 
 -- src/lib.rt:140:9
 mutex-at-requires : tie.Need-mutex-at-requires

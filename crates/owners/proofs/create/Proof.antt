@@ -2,10 +2,6 @@ use borrow.Author.Needs.{needs}
 use Rattle.scheduler.specs.Models.{createModel}
 use Rattle.owners.proofs.create.Statement.{statement}
 use Rattle.owners.proofs.create.Tie as tie
-use Rattle.owners.proofs.create.Reads as reads
-use Rattle.owners.proofs.create.Lts as lts
-use Rattle.cells.proofs.put_thread.Reads as put-thread-reads
-use Rattle.moves.proofs.arrive.Reads as arrive-reads
 
 -- src/lib.rt:231:5
 put-thread-requires : tie.Need-put-thread-requires

@@ -2,9 +2,6 @@ use borrow.Author.Needs.{needs}
 use Rattle.scheduler.specs.Models.{createMutexModel}
 use Rattle.owners.proofs.create_mutex.Statement.{statement}
 use Rattle.owners.proofs.create_mutex.Tie as tie
-use Rattle.owners.proofs.create_mutex.Reads as reads
-use Rattle.owners.proofs.create_mutex.Lts as lts
-use Rattle.cells.proofs.put_mutex.Reads as put-mutex-reads
 
 -- src/lib.rt:244:5
 put-mutex-requires : tie.Need-put-mutex-requires

@@ -2,11 +2,6 @@ use borrow.Author.Needs.{needs}
 use Rattle.scheduler.specs.Models.{ownModel}
 use Rattle.owners.proofs.own.Statement.{statement}
 use Rattle.owners.proofs.own.Tie as tie
-use Rattle.owners.proofs.own.Reads as reads
-use Rattle.owners.proofs.own.Lts as lts
-use Rattle.cells.proofs.mutex_at.Reads as mutex-at-reads
-use Rattle.cells.proofs.put_mutex.Reads as put-mutex-reads
-use Rattle.owners.proofs.settle.Reads as settle-reads
 
 -- src/lib.rt:98:9
 mutex-at-requires : tie.Need-mutex-at-requires

@@ -3,9 +3,8 @@
 use Prim.Native.Nat.{_≤_, _+_, _-_}
 use mathlib.Core.Path.{_≡_, sym, _∙_}
 use native.Mathlib.Omega.{arith}
-use lib.ListN.{getD, drop}
+use lib.ListN.{drop}
 use borrow.Author.Needs.{needs}
-use Rattle.scheduler.specs.Models.{noMutex, mutexOf}
 use Rattle.verdicts.specs.Models.{ownedIn}
 use Rattle.verdicts.proofs.Owning.{owned-one, count-on, count-done}
 use Rattle.cells.specs.Cells.{schedulerIn}

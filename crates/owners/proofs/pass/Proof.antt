@@ -1,19 +1,13 @@
 use borrow.Author.Needs.{needs}
 use Rattle.scheduler.specs.Models.{passModel, passToModel}
-use borrow.Author.Tests.{le-leb, lt-leb, lt-ltb, le-ltb, eq-eqb, ne-eqb}
-use mathlib.Core.Path.{_≡_, refl, sym, ap, _∙_, subst}
+use borrow.Author.Tests.{le-leb, lt-leb}
+use mathlib.Core.Path.{ap, _∙_}
 use Rattle.parts.specs.Models.{headModel}
 use Rattle.cells.specs.Cells.{schedulerIn}
 use Rattle.moves.proofs.Joins.{for-mutex}
 use Rattle.moves.proofs.Waits.{leaves-mutex}
 use Rattle.owners.proofs.pass.Statement.{statement}
 use Rattle.owners.proofs.pass.Tie as tie
-use Rattle.owners.proofs.pass.Reads as reads
-use Rattle.owners.proofs.pass.Lts as lts
-use Rattle.moves.proofs.arrive.Reads as arrive-reads
-use Rattle.moves.proofs.head.Reads as head-reads
-use Rattle.moves.proofs.part.Reads as part-reads
-use Rattle.owners.proofs.own.Reads as own-reads
 
 -- src/lib.rt:126:29
 add-head : tie.Need-add-head

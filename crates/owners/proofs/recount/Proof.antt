@@ -2,10 +2,6 @@ use borrow.Author.Needs.{needs}
 use Rattle.scheduler.specs.Models.{recountModel}
 use Rattle.owners.proofs.recount.Statement.{statement}
 use Rattle.owners.proofs.recount.Tie as tie
-use Rattle.owners.proofs.recount.Reads as reads
-use Rattle.owners.proofs.recount.Lts as lts
-use Rattle.cells.proofs.mutex_at.Reads as mutex-at-reads
-use Rattle.cells.proofs.put_mutex.Reads as put-mutex-reads
 
 -- src/lib.rt:113:9
 mutex-at-requires : tie.Need-mutex-at-requires

@@ -1,13 +1,8 @@
 use borrow.Author.Needs.{needs}
 use Rattle.scheduler.specs.Models.{releaseModel}
-use borrow.Author.Tests.{le-leb, lt-leb, lt-ltb, le-ltb, eq-eqb, ne-eqb}
+use borrow.Author.Tests.{lt-ltb, le-ltb}
 use Rattle.owners.proofs.release.Statement.{statement}
 use Rattle.owners.proofs.release.Tie as tie
-use Rattle.owners.proofs.release.Reads as reads
-use Rattle.owners.proofs.release.Lts as lts
-use Rattle.cells.proofs.mutex_at.Reads as mutex-at-reads
-use Rattle.owners.proofs.pass.Reads as pass-reads
-use Rattle.owners.proofs.recount.Reads as recount-reads
 
 -- src/lib.rt:157:9
 mutex-at-requires : tie.Need-mutex-at-requires

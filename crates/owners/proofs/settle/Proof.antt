@@ -6,12 +6,6 @@ use Rattle.scheduler.specs.Models.{settleModel}
 use Rattle.owners.proofs.Calls.{settles}
 use Rattle.owners.proofs.settle.Statement.{statement}
 use Rattle.owners.proofs.settle.Tie as tie
-use Rattle.owners.proofs.settle.Reads as reads
-use Rattle.owners.proofs.settle.Lts as lts
-use Rattle.cells.proofs.put_thread.Reads as put-thread-reads
-use Rattle.cells.proofs.thread_at.Reads as thread-at-reads
-use Rattle.owners.proofs.highest_ceiling.Reads as highest-ceiling-reads
-use Rattle.owners.proofs.larger.Reads as larger-reads
 
 -- src/lib.rt:80:9
 returns : tie.Need-returns

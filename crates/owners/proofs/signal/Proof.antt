@@ -1,5 +1,5 @@
 use borrow.Author.Needs.{needs}
-use mathlib.Core.Path.{_≡_, refl, sym, ap, _∙_}
+use mathlib.Core.Path.{ap, _∙_}
 use mathlib.Core.Logic.{⊎-elim}
 use borrow.Author.Tests.{le-leb, lt-leb}
 use Rattle.parts.specs.Models.{headModel}
@@ -10,14 +10,6 @@ use Rattle.moves.proofs.Waits.{leaves-condition}
 use Rattle.owners.proofs.Calls.{signals-none, signals-one}
 use Rattle.owners.proofs.signal.Statement.{statement}
 use Rattle.owners.proofs.signal.Tie as tie
-use Rattle.owners.proofs.signal.Reads as reads
-use Rattle.owners.proofs.signal.Lts as lts
-use Rattle.cells.proofs.highest_at.Reads as highest-at-reads
-use Rattle.cells.proofs.put_tie.Reads as put-tie-reads
-use Rattle.cells.proofs.tie_at.Reads as tie-at-reads
-use Rattle.moves.proofs.head.Reads as head-reads
-use Rattle.moves.proofs.part.Reads as part-reads
-use Rattle.owners.proofs.wake.Reads as wake-reads
 
 -- src/lib.rt:192:29
 add-head : tie.Need-add-head

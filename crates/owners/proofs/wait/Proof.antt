@@ -2,12 +2,6 @@ use borrow.Author.Needs.{needs}
 use Rattle.scheduler.specs.Models.{waitModel}
 use Rattle.owners.proofs.wait.Statement.{statement}
 use Rattle.owners.proofs.wait.Tie as tie
-use Rattle.owners.proofs.wait.Reads as reads
-use Rattle.owners.proofs.wait.Lts as lts
-use Rattle.cells.proofs.put_tie.Reads as put-tie-reads
-use Rattle.cells.proofs.running_at.Reads as running-at-reads
-use Rattle.moves.proofs.wait_on.Reads as wait-on-reads
-use Rattle.owners.proofs.release.Reads as release-reads
 
 -- src/lib.rt:169:9
 running-at-requires : tie.Need-running-at-requires

@@ -1,14 +1,8 @@
 use borrow.Author.Needs.{needs}
 use Rattle.scheduler.specs.Models.{wakeModel}
-use borrow.Author.Tests.{le-leb, lt-leb, lt-ltb, le-ltb, eq-eqb, ne-eqb}
+use borrow.Author.Tests.{eq-eqb, ne-eqb}
 use Rattle.owners.proofs.wake.Statement.{statement}
 use Rattle.owners.proofs.wake.Tie as tie
-use Rattle.owners.proofs.wake.Reads as reads
-use Rattle.owners.proofs.wake.Lts as lts
-use Rattle.cells.proofs.mutex_at.Reads as mutex-at-reads
-use Rattle.moves.proofs.arrive.Reads as arrive-reads
-use Rattle.moves.proofs.wait_for.Reads as wait-for-reads
-use Rattle.owners.proofs.own.Reads as own-reads
 
 -- src/lib.rt:179:9
 mutex-at-requires : tie.Need-mutex-at-requires

@@ -5,16 +5,6 @@ use Rattle.plain.specs.Standing.{engineIn}
 use Rattle.plain.proofs.Judging.{refused, accepted, acquire-judged}
 use Rattle.plain.proofs.acquire.Statement.{statement}
 use Rattle.plain.proofs.acquire.Tie as tie
-use Rattle.plain.proofs.acquire.Reads as reads
-use Rattle.plain.proofs.acquire.Lts as lts
-use Rattle.calls.proofs.number.Reads as number-reads
-use Rattle.cells.proofs.mutex_at.Reads as mutex-at-reads
-use Rattle.cells.proofs.running_at.Reads as running-at-reads
-use Rattle.cells.proofs.thread_at.Reads as thread-at-reads
-use Rattle.owners.proofs.acquire.Reads as acquire-reads
-use Rattle.plain.proofs.finish.Reads as finish-reads
-use Rattle.plain.proofs.refuse.Reads as refuse-reads
-use Rattle.verdicts.proofs.acquire_verdict.Reads as acquire-verdict-reads
 
 -- src/lib.rt:85:9
 running-at-requires : tie.Need-running-at-requires

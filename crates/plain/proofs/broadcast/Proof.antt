@@ -1,19 +1,12 @@
 use borrow.Author.Needs.{needs}
 use mathlib.Core.Bool.{false}
-use Rattle.scheduler.specs.declared.Signalled.{Signalled}
-use mathlib.Core.Path.{refl, ap, _∙_}
+use Rattle.scheduler.specs.Models.{Signalled}
+use mathlib.Core.Path.{ap, _∙_}
 use Rattle.engine.specs.Models.{withScheduler, broadcastModel, answeredModel}
 use Rattle.plain.specs.Standing.{engineIn}
 use Rattle.plain.proofs.Judging.{refused, accepted}
 use Rattle.plain.proofs.broadcast.Statement.{statement}
 use Rattle.plain.proofs.broadcast.Tie as tie
-use Rattle.plain.proofs.broadcast.Reads as reads
-use Rattle.plain.proofs.broadcast.Lts as lts
-use Rattle.calls.proofs.number.Reads as number-reads
-use Rattle.owners.proofs.broadcast.Reads as broadcast-reads
-use Rattle.plain.proofs.finish.Reads as finish-reads
-use Rattle.plain.proofs.refuse.Reads as refuse-reads
-use Rattle.verdicts.proofs.id_verdict.Reads as id-verdict-reads
 
 -- src/lib.rt:155:9
 id-verdict-requires : tie.Need-id-verdict-requires

@@ -1,21 +1,13 @@
 use borrow.Author.Needs.{needs}
 use Prim.Native.Nat.{_+_, _%_}
-use mathlib.Core.Bool.{true}
 use mathlib.Core.Path.{refl, ap, _∙_}
-use Rattle.engine.specs.Models.{withScheduler, createTimerModel}
+use Rattle.engine.specs.Models.{createTimerModel}
 use Rattle.plain.specs.declared.Counts.{Counts}
 use Rattle.plain.specs.declared.Counted.{Counted}
 use Rattle.plain.specs.Standing.{engineIn, steppedIn}
 use Rattle.plain.proofs.Judging.{refused, accepted}
 use Rattle.plain.proofs.create_timer.Statement.{statement}
 use Rattle.plain.proofs.create_timer.Tie as tie
-use Rattle.plain.proofs.create_timer.Reads as reads
-use Rattle.plain.proofs.create_timer.Lts as lts
-use Rattle.calls.proofs.number.Reads as number-reads
-use Rattle.plain.proofs.finish.Reads as finish-reads
-use Rattle.plain.proofs.refuse.Reads as refuse-reads
-use Rattle.plain.proofs.with_answer.Reads as with-answer-reads
-use Rattle.verdicts.proofs.room_verdict.Reads as room-verdict-reads
 
 -- src/lib.rt:242:9
 room-verdict-requires : tie.Need-room-verdict-requires

@@ -1,15 +1,11 @@
 use borrow.Author.Needs.{needs}
-use mathlib.Core.Path.{_≡_, refl, sym, ap, _∙_}
+use mathlib.Core.Path.{ap, _∙_}
 use mathlib.Core.Logic.{⊎-elim}
 use Rattle.cells.specs.Cells.{schedulerIn}
 use Rattle.plain.specs.Standing.{engineIn, steppedIn}
 use Rattle.plain.proofs.Judging.{finished}
 use Rattle.plain.proofs.finish.Statement.{statement}
 use Rattle.plain.proofs.finish.Tie as tie
-use Rattle.plain.proofs.finish.Reads as reads
-use Rattle.plain.proofs.finish.Lts as lts
-use Rattle.cells.proofs.running_at.Reads as running-at-reads
-use Rattle.moves.proofs.choose_next.Reads as choose-next-reads
 
 -- src/lib.rt:71:9
 choose-next-requires : tie.Need-choose-next-requires

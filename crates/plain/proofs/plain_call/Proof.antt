@@ -4,20 +4,6 @@ use Rattle.engine.specs.Models.{stepModel, refusedModel}
 use Rattle.plain.specs.Standing.{plainModel}
 use Rattle.plain.proofs.plain_call.Statement.{statement}
 use Rattle.plain.proofs.plain_call.Tie as tie
-use Rattle.plain.proofs.plain_call.Reads as reads
-use Rattle.plain.proofs.plain_call.Lts as lts
-use Rattle.plain.proofs.acquire.Reads as acquire-reads
-use Rattle.plain.proofs.broadcast.Reads as broadcast-reads
-use Rattle.plain.proofs.create_condition.Reads as create-condition-reads
-use Rattle.plain.proofs.create_mutex.Reads as create-mutex-reads
-use Rattle.plain.proofs.create_thread.Reads as create-thread-reads
-use Rattle.plain.proofs.create_timer.Reads as create-timer-reads
-use Rattle.plain.proofs.refuse.Reads as refuse-reads
-use Rattle.plain.proofs.release.Reads as release-reads
-use Rattle.plain.proofs.signal.Reads as signal-reads
-use Rattle.plain.proofs.start.Reads as start-reads
-use Rattle.plain.proofs.wait.Reads as wait-reads
-use Rattle.plain.proofs.with_answer.Reads as with-answer-reads
 
 -- src/lib.rt:259:30
 enum-told : tie.Need-enum-told

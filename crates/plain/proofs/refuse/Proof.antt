@@ -1,10 +1,6 @@
 use borrow.Author.Needs.{needs}
 use Rattle.plain.proofs.refuse.Statement.{statement}
 use Rattle.plain.proofs.refuse.Tie as tie
-use Rattle.plain.proofs.refuse.Reads as reads
-use Rattle.plain.proofs.refuse.Lts as lts
-use Rattle.calls.proofs.number.Reads as number-reads
-use Rattle.cells.proofs.running_at.Reads as running-at-reads
 
 -- src/lib.rt:57:9
 running-at-requires : tie.Need-running-at-requires

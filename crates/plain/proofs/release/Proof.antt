@@ -1,19 +1,10 @@
 use borrow.Author.Needs.{needs}
-use mathlib.Core.Path.{refl, ap, _∙_}
+use mathlib.Core.Path.{ap, _∙_}
 use Rattle.engine.specs.Models.{withScheduler, releaseModel}
 use Rattle.plain.specs.Standing.{engineIn}
 use Rattle.plain.proofs.Judging.{refused, accepted, release-judged}
 use Rattle.plain.proofs.release.Statement.{statement}
 use Rattle.plain.proofs.release.Tie as tie
-use Rattle.plain.proofs.release.Reads as reads
-use Rattle.plain.proofs.release.Lts as lts
-use Rattle.calls.proofs.number.Reads as number-reads
-use Rattle.cells.proofs.mutex_at.Reads as mutex-at-reads
-use Rattle.cells.proofs.running_at.Reads as running-at-reads
-use Rattle.owners.proofs.release.Reads as release-reads
-use Rattle.plain.proofs.finish.Reads as finish-reads
-use Rattle.plain.proofs.refuse.Reads as refuse-reads
-use Rattle.verdicts.proofs.release_verdict.Reads as release-verdict-reads
 
 -- src/lib.rt:108:9
 running-at-requires : tie.Need-running-at-requires

@@ -1,7 +1,6 @@
 use borrow.Author.Needs.{needs}
-use Prim.Native.Nat.{_+_, _%_}
 use mathlib.Core.Bool.{true}
-use mathlib.Core.Path.{refl, ap, _∙_}
+use mathlib.Core.Path.{ap, _∙_}
 use Rattle.engine.specs.Models.{withScheduler, startModel}
 use Rattle.plain.specs.declared.Counts.{Counts}
 use Rattle.plain.specs.declared.Counted.{Counted}
@@ -9,14 +8,6 @@ use Rattle.plain.specs.Standing.{engineIn, steppedIn}
 use Rattle.plain.proofs.Judging.{refused, accepted}
 use Rattle.plain.proofs.start.Statement.{statement}
 use Rattle.plain.proofs.start.Tie as tie
-use Rattle.plain.proofs.start.Reads as reads
-use Rattle.plain.proofs.start.Lts as lts
-use Rattle.calls.proofs.number.Reads as number-reads
-use Rattle.moves.proofs.run_first.Reads as run-first-reads
-use Rattle.plain.proofs.finish.Reads as finish-reads
-use Rattle.plain.proofs.refuse.Reads as refuse-reads
-use Rattle.plain.proofs.with_answer.Reads as with-answer-reads
-use Rattle.verdicts.proofs.start_verdict.Reads as start-verdict-reads
 
 -- src/lib.rt:175:9
 start-verdict-requires : tie.Need-start-verdict-requires

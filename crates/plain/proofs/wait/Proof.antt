@@ -1,25 +1,12 @@
 use borrow.Author.Needs.{needs}
 use mathlib.Core.Path.{ap₂}
 use Rattle.verdicts.specs.Models.{firstOf}
-use mathlib.Core.Path.{refl, ap, _∙_}
+use mathlib.Core.Path.{ap, _∙_}
 use Rattle.engine.specs.Models.{withScheduler, waitModel}
 use Rattle.plain.specs.Standing.{engineIn}
 use Rattle.plain.proofs.Judging.{refused, accepted, wait-judged}
 use Rattle.plain.proofs.wait.Statement.{statement}
 use Rattle.plain.proofs.wait.Tie as tie
-use Rattle.plain.proofs.wait.Reads as reads
-use Rattle.plain.proofs.wait.Lts as lts
-use Rattle.calls.proofs.number.Reads as number-reads
-use Rattle.cells.proofs.mutex_at.Reads as mutex-at-reads
-use Rattle.cells.proofs.running_at.Reads as running-at-reads
-use Rattle.cells.proofs.tie_at.Reads as tie-at-reads
-use Rattle.owners.proofs.owned_by.Reads as owned-by-reads
-use Rattle.owners.proofs.wait.Reads as wait-reads
-use Rattle.plain.proofs.finish.Reads as finish-reads
-use Rattle.plain.proofs.refuse.Reads as refuse-reads
-use Rattle.verdicts.proofs.first_of.Reads as first-of-reads
-use Rattle.verdicts.proofs.held_verdict.Reads as held-verdict-reads
-use Rattle.verdicts.proofs.ids_verdict.Reads as ids-verdict-reads
 
 -- src/lib.rt:123:9
 running-at-requires : tie.Need-running-at-requires

@@ -4,14 +4,6 @@ use Rattle.turns.proofs.Sorts.{apart}
 use Rattle.tally.proofs.Walking.{summed}
 use Rattle.tally.proofs.run_rows.Statement.{statement}
 use Rattle.tally.proofs.run_rows.Tie as tie
-use Rattle.tally.proofs.run_rows.Reads as reads
-use Rattle.tally.proofs.run_rows.Lts as lts
-use Rattle.engine.proofs.Engine.boot.Reads as boot-reads
-use Rattle.tally.proofs.tally_repeated.Reads as tally-repeated-reads
-use Rattle.tally.proofs.tally_rows.Reads as tally-rows-reads
-use Rattle.turns.proofs.cells_of.Reads as cells-of-reads
-use Rattle.turns.proofs.clock_of.Reads as clock-of-reads
-use Rattle.turns.proofs.counts_of.Reads as counts-of-reads
 
 -- src/lib.rt:101:9
 boot-requires : tie.Need-boot-requires

@@ -3,7 +3,7 @@ use mathlib.Core.Path.{_≡_, refl, sym, ap, _∙_}
 use native.Mathlib.Omega.{arith}
 use borrow.Author.Needs.{needs}
 use Prim.Native.Nat.{_-_}
-use Rattle.tally.specs.Sums.{Tally, tallyIn, repeated}
+use Rattle.tally.specs.Sums.{tallyIn, repeated}
 use Rattle.tally.proofs.Walking.{repeat-on, repeat-end}
 use Rattle.tally.proofs.tally_repeated.Statement.{statement}
 use Rattle.tally.proofs.tally_repeated.Tie as tie

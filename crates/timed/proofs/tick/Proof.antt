@@ -1,7 +1,7 @@
 -- `tick` meets its contract: by whether the scheduler has started and a timer is due, and each call by its own. Assumes nothing.
 use borrow.Author.Tests.{not-true, not-false}
 use Rattle.plain.specs.Standing.{engineIn}
-use Rattle.timed.proofs.Calling.{tick-stopped, tick-served, tick-quiet}
+use Rattle.timed.proofs.Ticking.{tick-stopped, tick-served, tick-quiet}
 use borrow.Author.Needs.{needs}
 use Rattle.timed.proofs.tick.Statement.{statement}
 use Rattle.timed.proofs.tick.Tie as tie

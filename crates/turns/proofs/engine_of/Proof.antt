@@ -1,9 +1,6 @@
 use borrow.Author.Needs.{needs}
 use Rattle.turns.proofs.engine_of.Statement.{statement}
 use Rattle.turns.proofs.engine_of.Tie as tie
-use Rattle.turns.proofs.engine_of.Reads as reads
-use Rattle.turns.proofs.engine_of.Lts as lts
-use Rattle.packing.proofs.unpacked.Reads as unpacked-reads
 
 -- src/lib.rt:58:9
 unpacked-requires : tie.Need-unpacked-requires

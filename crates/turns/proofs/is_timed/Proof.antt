@@ -2,9 +2,6 @@ use borrow.Author.Needs.{needs}
 use Rattle.turns.specs.Turning.{isTimed}
 use Rattle.turns.proofs.is_timed.Statement.{statement}
 use Rattle.turns.proofs.is_timed.Tie as tie
-use Rattle.turns.proofs.is_timed.Reads as reads
-use Rattle.turns.proofs.is_timed.Lts as lts
-use Rattle.turns.proofs.on_timers.Reads as on-timers-reads
 
 -- src/lib.rt:99:24
 enum-known-decoded : tie.Need-enum-known-decoded

@@ -3,9 +3,6 @@ use mathlib.Core.Path.{refl}
 use Rattle.engine.specs.Models.{refusedModel}
 use Rattle.turns.proofs.not_timed.Statement.{statement}
 use Rattle.turns.proofs.not_timed.Tie as tie
-use Rattle.turns.proofs.not_timed.Reads as reads
-use Rattle.turns.proofs.not_timed.Lts as lts
-use Rattle.plain.proofs.refuse.Reads as refuse-reads
 
 -- src/lib.rt:126:9
 refuse-requires : tie.Need-refuse-requires

@@ -2,8 +2,6 @@ use borrow.Author.Needs.{needs}
 use Rattle.turns.specs.Turning.{onTimers}
 use Rattle.turns.proofs.on_timers.Statement.{statement}
 use Rattle.turns.proofs.on_timers.Tie as tie
-use Rattle.turns.proofs.on_timers.Reads as reads
-use Rattle.turns.proofs.on_timers.Lts as lts
 
 -- src/lib.rt:79:24
 enum-told : tie.Need-enum-told

@@ -4,10 +4,6 @@ use Rattle.engine.specs.Models.{refusedModel}
 use Rattle.turns.specs.Turning.{plainRow}
 use Rattle.turns.proofs.plain_row.Statement.{statement}
 use Rattle.turns.proofs.plain_row.Tie as tie
-use Rattle.turns.proofs.plain_row.Reads as reads
-use Rattle.turns.proofs.plain_row.Lts as lts
-use Rattle.plain.proofs.plain_call.Reads as plain-call-reads
-use Rattle.plain.proofs.refuse.Reads as refuse-reads
 
 -- src/lib.rt:109:24
 enum-known-decoded : tie.Need-enum-known-decoded

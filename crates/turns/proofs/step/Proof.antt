@@ -4,15 +4,6 @@ use Rattle.engine.proofs.Steps.{step-promise}
 use Rattle.turns.proofs.Sorts.{timed-done, plain-done}
 use Rattle.turns.proofs.step.Statement.{statement}
 use Rattle.turns.proofs.step.Tie as tie
-use Rattle.turns.proofs.step.Reads as reads
-use Rattle.turns.proofs.step.Lts as lts
-use Rattle.plain.proofs.plain_call.Reads as plain-call-reads
-use Rattle.turns.proofs.cells_of.Reads as cells-of-reads
-use Rattle.turns.proofs.clock_of.Reads as clock-of-reads
-use Rattle.turns.proofs.counts_of.Reads as counts-of-reads
-use Rattle.turns.proofs.engine_of.Reads as engine-of-reads
-use Rattle.turns.proofs.on_timers.Reads as on-timers-reads
-use Rattle.turns.proofs.timed_call.Reads as timed-call-reads
 
 -- src/lib.rt:172:21
 cells-of-requires : tie.Need-cells-of-requires

@@ -3,12 +3,6 @@ use Rattle.engine.specs.Models.{stepModel}
 use Rattle.turns.specs.Turning.{timedModel}
 use Rattle.turns.proofs.timed_call.Statement.{statement}
 use Rattle.turns.proofs.timed_call.Tie as tie
-use Rattle.turns.proofs.timed_call.Reads as reads
-use Rattle.turns.proofs.timed_call.Lts as lts
-use Rattle.timed.proofs.start_timer.Reads as start-timer-reads
-use Rattle.timed.proofs.stop_timer.Reads as stop-timer-reads
-use Rattle.timed.proofs.tick.Reads as tick-reads
-use Rattle.turns.proofs.not_timed.Reads as not-timed-reads
 
 -- src/lib.rt:135:34
 enum-told : tie.Need-enum-told

@@ -2,10 +2,6 @@ use borrow.Author.Needs.{needs}
 use Rattle.turns.specs.Turning.{timedRow}
 use Rattle.turns.proofs.timed_row.Statement.{statement}
 use Rattle.turns.proofs.timed_row.Tie as tie
-use Rattle.turns.proofs.timed_row.Reads as reads
-use Rattle.turns.proofs.timed_row.Lts as lts
-use Rattle.turns.proofs.not_timed.Reads as not-timed-reads
-use Rattle.turns.proofs.timed_call.Reads as timed-call-reads
 
 -- src/lib.rt:155:24
 enum-known-decoded : tie.Need-enum-known-decoded
