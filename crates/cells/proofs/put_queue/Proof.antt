@@ -1,3 +1,4 @@
+-- `put_queue` meets its contract: the bytes stored are the one change that the definition makes. Assumes nothing.
 use borrow.Author.Needs.{needs}
 use Rattle.cells.proofs.Stores.{queue-put}
 use Rattle.cells.proofs.Storing.{queue-none}
@@ -6,43 +7,33 @@ use native.Mathlib.Omega.{arith}
 use Rattle.cells.proofs.put_queue.Statement.{statement}
 use Rattle.cells.proofs.put_queue.Tie as tie
 
--- src/lib.rt:93:9
 returns : tie.Need-returns
 returns c = sym (queue-none _ _ _ _ (c .if1 .taken))
 
--- src/lib.rt:95:19
 cast-i : tie.Need-cast-i
 cast-i c = search needs
 
--- src/lib.rt:95:19
 mul-i : tie.Need-mul-i
 mul-i c = search needs
 
--- src/lib.rt:95:13
 add-i : tie.Need-add-i
 add-i c = search needs
 
--- src/lib.rt:95:44
 mul-i-2 : tie.Need-mul-i-2
 mul-i-2 c = search needs
 
--- src/lib.rt:95:13
 add-i-2 : tie.Need-add-i-2
 add-i-2 c = search needs
 
--- src/lib.rt:96:5
 store-requires : tie.Need-store-requires
 store-requires c κs = search needs
 
--- src/lib.rt:97:18
 add-store : tie.Need-add-store
 add-store c = search needs
 
--- src/lib.rt:97:5
 store-requires-2 : tie.Need-store-requires-2
 store-requires-2 c κs = search needs
 
--- src/lib.rt:89:1
 returns-2 : tie.Need-returns-2
 returns-2 c = rw (c .store2 .ensures, c .before .before .store .ensures) (queue-put _ (c .before .before .before .store-arg .given .0 .1) _ _ _ _ (omega arith) (c .before .before .before .before .if1 .left))
 

@@ -1,45 +1,36 @@
+-- `put_thread` meets its contract: the bytes stored are the one change that the definition makes. Assumes nothing.
 use borrow.Author.Needs.{needs}
 use Rattle.cells.proofs.Stores.{thread-put}
 use Rattle.cells.proofs.put_thread.Statement.{statement}
 use Rattle.cells.proofs.put_thread.Tie as tie
 
--- src/lib.rt:51:13
 cast-i : tie.Need-cast-i
 cast-i c = search needs
 
--- src/lib.rt:51:13
 mul-i : tie.Need-mul-i
 mul-i c = search needs
 
--- src/lib.rt:52:5
 store-requires : tie.Need-store-requires
 store-requires c κs = search needs
 
--- src/lib.rt:53:18
 add-store : tie.Need-add-store
 add-store c = search needs
 
--- src/lib.rt:53:5
 store-requires-2 : tie.Need-store-requires-2
 store-requires-2 c κs = search needs
 
--- src/lib.rt:54:18
 add-store-2 : tie.Need-add-store-2
 add-store-2 c = search needs
 
--- src/lib.rt:54:5
 store-requires-3 : tie.Need-store-requires-3
 store-requires-3 c κs = search needs
 
--- src/lib.rt:55:18
 add-store-3 : tie.Need-add-store-3
 add-store-3 c = search needs
 
--- src/lib.rt:55:5
 store-requires-4 : tie.Need-store-requires-4
 store-requires-4 c κs = search needs
 
--- src/lib.rt:48:1
 returns : tie.Need-returns
 returns c = rw (c .store4 .ensures, c .before .before .store3 .ensures, c .before .before .before .before .store2 .ensures, c .before .before .before .before .before .before .store .ensures) (thread-put _ (c .before .before .before .before .before .before .before .store-arg .given .0 .1) _ _ _ _ _)
 

@@ -1,3 +1,4 @@
+-- `queue_at` meets its contract: the bytes read are the row, the link, the queue or the tie that stands there. Assumes nothing.
 use borrow.Author.Needs.{needs}
 use mathlib.Core.Path.{sym, _∙_}
 use native.Mathlib.Omega.{arith}
@@ -5,47 +6,36 @@ use Rattle.cells.proofs.Storing.{queue-read, queue-past}
 use Rattle.cells.proofs.queue_at.Statement.{statement}
 use Rattle.cells.proofs.queue_at.Tie as tie
 
--- src/lib.rt:79:9
 empty-requires : tie.Need-empty-requires
 empty-requires c κs = search needs
 
--- src/lib.rt:79:9
 returns : tie.Need-returns
 returns c = c .empty .ensures ∙ sym (queue-past _ _ _ (c .before .if1 .taken))
 
--- src/lib.rt:81:19
 cast-i : tie.Need-cast-i
 cast-i c = search needs
 
--- src/lib.rt:81:19
 mul-i : tie.Need-mul-i
 mul-i c = search needs
 
--- src/lib.rt:81:13
 add-i : tie.Need-add-i
 add-i c = search needs
 
--- src/lib.rt:81:44
 mul-i-2 : tie.Need-mul-i-2
 mul-i-2 c = search needs
 
--- src/lib.rt:81:13
 add-i-2 : tie.Need-add-i-2
 add-i-2 c = search needs
 
--- src/lib.rt:83:16
 load-requires : tie.Need-load-requires
 load-requires c κs = search needs
 
--- src/lib.rt:84:27
 add-load : tie.Need-add-load
 add-load c = search needs
 
--- src/lib.rt:84:15
 load-requires-2 : tie.Need-load-requires-2
 load-requires-2 c κs = search needs
 
--- src/lib.rt:75:1
 returns-2 : tie.Need-returns-2
 returns-2 c = (λ i. record { first = c .before .before .load .ensures i; last = c .load2 .ensures i }) ∙ sym (queue-read _ _ _ (omega arith) (c .before .before .before .before .if1 .left))
 

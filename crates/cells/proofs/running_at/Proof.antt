@@ -1,13 +1,12 @@
+-- `running_at` meets its contract: the bytes read are the row, the link, the queue or the tie that stands there. Assumes nothing.
 use borrow.Author.Needs.{needs}
 use Rattle.cells.specs.Cells.{schedulerIn}
 use Rattle.cells.proofs.running_at.Statement.{statement}
 use Rattle.cells.proofs.running_at.Tie as tie
 
--- src/lib.rt:142:5
 load-requires : tie.Need-load-requires
 load-requires c κs = search needs
 
--- src/lib.rt:139:1
 returns : tie.Need-returns
 unfolding schedulerIn
 returns c = c .load .ensures

@@ -1,3 +1,4 @@
+-- `arrive` meets its contract: by what each call promises. Assumes nothing.
 use borrow.Author.Needs.{needs}
 use Rattle.parts.specs.Models.{arriveModel}
 use Rattle.scheduler.specs.Models.{readyModel}
@@ -5,19 +6,15 @@ use Rattle.cells.specs.Changes.{setOf, withSet}
 use Rattle.moves.proofs.arrive.Statement.{statement}
 use Rattle.moves.proofs.arrive.Tie as tie
 
--- src/lib.rt:122:9
 thread-at-requires : tie.Need-thread-at-requires
 thread-at-requires c κs = search needs
 
--- src/lib.rt:123:5
 join-requires : tie.Need-join-requires
 join-requires c κs = search needs
 
--- src/lib.rt:124:5
 stand-requires : tie.Need-stand-requires
 stand-requires c κs = search needs
 
--- src/lib.rt:119:1
 returns : tie.Need-returns
 unfolding readyModel arriveModel setOf withSet
 returns c = rw (c .stand .ensures, c .before .before .join .ensures, c .before .before .before .before .thread-at .ensures)

@@ -1,22 +1,19 @@
+-- `arrive_in_front` meets its contract: by what each call promises. Assumes nothing.
 use borrow.Author.Needs.{needs}
 use Rattle.parts.specs.Models.{arriveInFrontModel}
 use Rattle.cells.specs.Changes.{setOf, withSet}
 use Rattle.moves.proofs.arrive_in_front.Statement.{statement}
 use Rattle.moves.proofs.arrive_in_front.Tie as tie
 
--- src/lib.rt:131:9
 thread-at-requires : tie.Need-thread-at-requires
 thread-at-requires c κs = search needs
 
--- src/lib.rt:132:5
 join-front-requires : tie.Need-join-front-requires
 join-front-requires c κs = search needs
 
--- src/lib.rt:133:5
 stand-requires : tie.Need-stand-requires
 stand-requires c κs = search needs
 
--- src/lib.rt:128:1
 returns : tie.Need-returns
 unfolding arriveInFrontModel setOf withSet
 returns c = rw (c .stand .ensures, c .before .before .join-front .ensures, c .before .before .before .before .thread-at .ensures)

@@ -1,62 +1,49 @@
+-- `choose_next` meets its contract: by what each call promises. Assumes nothing.
 use borrow.Author.Needs.{needs}
 use mathlib.Core.Path.{refl}
 use Rattle.moves.proofs.Choices.{runner-waits, none-ready, higher-ready, equal-ready, lower-ready, stays}
 use Rattle.moves.proofs.choose_next.Statement.{statement}
 use Rattle.moves.proofs.choose_next.Tie as tie
 
--- src/lib.rt:153:9
 running-at-requires : tie.Need-running-at-requires
 running-at-requires c κs = search needs
 
--- src/lib.rt:154:9
 thread-at-requires : tie.Need-thread-at-requires
 thread-at-requires c κs = search needs
 
--- src/lib.rt:156:9
 run-first-requires : tie.Need-run-first-requires
 run-first-requires c κs = search needs
 
--- src/lib.rt:157:9
 returns : tie.Need-returns
 returns c = rw (c .run-first .ensures) (runner-waits _ _ _ _ (c .before .before .before .before .before .before .running-at .ensures) (c .before .before .before .before .thread-at .ensures) refl _ (c .before .before .if1 .taken))
 
--- src/lib.rt:159:9
 highest-at-requires : tie.Need-highest-at-requires
 highest-at-requires c κs = search needs
 
--- src/lib.rt:161:9
 returns-2 : tie.Need-returns-2
 returns-2 c = none-ready _ _ _ _ (c .before .before .before .before .before .before .before .running-at .ensures) (c .before .before .before .before .before .thread-at .ensures) (c .before .highest-at .ensures) _ (c .before .before .before .if1 .left) (c .if2 .taken)
 
--- src/lib.rt:164:9
 arrive-in-front-requires : tie.Need-arrive-in-front-requires
 arrive-in-front-requires c κs = search needs
 
--- src/lib.rt:165:9
 run-first-requires-2 : tie.Need-run-first-requires-2
 run-first-requires-2 c κs = search needs
 
--- src/lib.rt:166:9
 returns-3 : tie.Need-returns-3
 returns-3 c = rw (c .run-first2 .ensures, c .before .before .arrive-in-front .ensures) (higher-ready _ _ _ _ (c .before .before .before .before .before .before .before .before .before .before .before .before .before .running-at .ensures) (c .before .before .before .before .before .before .before .before .before .before .before .thread-at .ensures) (c .before .before .before .before .before .before .before .highest-at .ensures) _ (c .before .before .before .before .before .before .before .before .before .if1 .left) (c .before .before .before .before .before .before .if2 .left) (c .before .before .before .before .if3 .taken))
 
--- src/lib.rt:170:13
 arrive-requires : tie.Need-arrive-requires
 arrive-requires c κs = search needs
 
--- src/lib.rt:171:13
 run-first-requires-3 : tie.Need-run-first-requires-3
 run-first-requires-3 c κs = search needs
 
--- src/lib.rt:150:1
 returns-4 : tie.Need-returns-4
 returns-4 c = rw (c .run-first3 .ensures, c .before .before .arrive .ensures, c .before .before .before .before .before .before .if4 .taken) (equal-ready _ _ _ _ (c .before .before .before .before .before .before .before .before .before .before .before .before .before .before .before .before .running-at .ensures) (c .before .before .before .before .before .before .before .before .before .before .before .before .before .before .thread-at .ensures) (c .before .before .before .before .before .before .before .before .before .before .highest-at .ensures) (c .before .before .before .before .before .before .before .before .before .before .before .before .if1 .left) (c .before .before .before .before .before .before .before .before .before .if2 .left) (c .before .before .before .before .before .before .before .if3 .left) (c .before .before .before .before .if5 .taken))
 
--- src/lib.rt:150:1
 returns-5 : tie.Need-returns-5
 returns-5 c = rw (c .before .before .if4 .taken) (lower-ready _ _ _ _ (c .before .before .before .before .before .before .before .before .before .before .before .before .running-at .ensures) (c .before .before .before .before .before .before .before .before .before .before .thread-at .ensures) (c .before .before .before .before .before .before .highest-at .ensures) (c .before .before .before .before .before .before .before .before .if1 .left) (c .before .before .before .before .before .if2 .left) (c .before .before .before .if3 .left) (c .if5 .left))
 
--- src/lib.rt:150:1
 returns-6 : tie.Need-returns-6
 returns-6 c = rw (c .if4 .left) (stays _ _ _ _ (c .before .before .before .before .before .before .before .before .before .before .running-at .ensures) (c .before .before .before .before .before .before .before .before .thread-at .ensures) (c .before .before .before .before .highest-at .ensures) (c .before .before .before .before .before .before .if1 .left) (c .before .before .before .if2 .left) (c .before .if3 .left))
 

@@ -1,3 +1,4 @@
+-- `head` meets its contract: by what each call promises. Assumes nothing.
 use borrow.Author.Needs.{needs}
 use Rattle.cells.specs.Cells.{schedulerIn}
 use Prim.Native.Nat.{_%_}
@@ -9,15 +10,12 @@ use Rattle.parts.specs.Models.{headModel}
 use Rattle.moves.proofs.head.Statement.{statement}
 use Rattle.moves.proofs.head.Tie as tie
 
--- src/lib.rt:96:9
 highest-at-requires : tie.Need-highest-at-requires
 highest-at-requires c κs = search needs
 
--- src/lib.rt:97:9
 queue-at-requires : tie.Need-queue-at-requires
 queue-at-requires c κs = search needs
 
--- src/lib.rt:93:1
 returns : tie.Need-returns
 unfolding headModel
 returns c = (λ i. record { priority = c .before .highest-at .ensures i; thread = (ap (λ (q : Queue). q .first) (c .queue-at .ensures) ∙ ap (λ p. levelModel (setOf (schedulerIn (c .before .before .args .cells .now)) (c .before .before .args .n % 33)) p .first) (c .before .highest-at .ensures)) i })

@@ -1,3 +1,4 @@
+-- `join_front` meets its contract: by what each call promises. Assumes nothing.
 use borrow.Author.Needs.{needs}
 use mathlib.Core.Path.{subst}
 use Prim.Native.Nat.{_<_, _≤_}
@@ -6,31 +7,24 @@ use Rattle.moves.proofs.Joins.{front-none, front-before, front-alone}
 use Rattle.moves.proofs.join_front.Statement.{statement}
 use Rattle.moves.proofs.join_front.Tie as tie
 
--- src/lib.rt:55:9
 returns : tie.Need-returns
 returns c = front-none _ _ _ _ (c .if1 .taken)
 
--- src/lib.rt:57:9
 queue-at-requires : tie.Need-queue-at-requires
 queue-at-requires c κs = search needs
 
--- src/lib.rt:58:5
 put-link-requires : tie.Need-put-link-requires
 put-link-requires c κs = search needs
 
--- src/lib.rt:64:9
 put-queue-requires : tie.Need-put-queue-requires
 put-queue-requires c κs = search needs
 
--- src/lib.rt:65:9
 returns-2 : tie.Need-returns-2
 returns-2 c = rw (c .put-queue .ensures, c .before .before .before .before .put-link .ensures, c .before .before .before .before .before .before .queue-at .ensures) (front-before _ _ _ _ (c .before .before .before .before .before .before .before .before .if1 .left) (subst (λ (q : Queue). q .first < 32) (c .before .before .before .before .before .before .queue-at .ensures) (c .before .before .if2 .taken)))
 
--- src/lib.rt:68:5
 put-queue-requires-2 : tie.Need-put-queue-requires-2
 put-queue-requires-2 c κs = search needs
 
--- src/lib.rt:51:1
 returns-3 : tie.Need-returns-3
 returns-3 c = rw (c .put-queue2 .ensures, c .before .before .before .before .put-link .ensures, c .before .before .before .before .before .before .queue-at .ensures) (front-alone _ _ _ _ (c .before .before .before .before .before .before .before .before .if1 .left) (subst (λ (q : Queue). 32 ≤ q .first) (c .before .before .before .before .before .before .queue-at .ensures) (c .before .before .if2 .left)))
 

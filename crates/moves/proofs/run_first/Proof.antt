@@ -1,3 +1,4 @@
+-- `run_first` meets its contract: by what each call promises. Assumes nothing.
 use borrow.Author.Needs.{needs}
 use mathlib.Core.Path.{_≡_}
 use borrow.Author.Tests.{le-leb, lt-leb}
@@ -9,30 +10,24 @@ use Rattle.cells.specs.Changes.{setOf, withSet}
 use Rattle.moves.proofs.run_first.Statement.{statement}
 use Rattle.moves.proofs.run_first.Tie as tie
 
--- src/lib.rt:140:9
 head-requires : tie.Need-head-requires
 head-requires c κs = search needs
 
--- src/lib.rt:142:9
 returns : tie.Need-returns
 unfolding scheduler.runFirstModel parts.runFirstModel setOf
 returns c =
     let e : c .before .before .head .result ≡ headModel (schedulerIn (c .before .before .before .before .args .cells .now) .threads .ready) = c .before .before .head .ensures in
     rw (← e, le-leb _ _ (c .if1 .taken))
 
--- src/lib.rt:144:5
 part-requires : tie.Need-part-requires
 part-requires c κs = search needs
 
--- src/lib.rt:145:5
 stand-requires : tie.Need-stand-requires
 stand-requires c κs = search needs
 
--- src/lib.rt:146:5
 put-running-requires : tie.Need-put-running-requires
 put-running-requires c κs = search needs
 
--- src/lib.rt:137:1
 returns-2 : tie.Need-returns-2
 unfolding scheduler.runFirstModel parts.runFirstModel runModel setOf withSet
 returns-2 c =

@@ -1,17 +1,15 @@
+-- `stand` meets its contract: by what each call promises. Assumes nothing.
 use borrow.Author.Needs.{needs}
 use Rattle.parts.specs.Models.{standModel}
 use Rattle.moves.proofs.stand.Statement.{statement}
 use Rattle.moves.proofs.stand.Tie as tie
 
--- src/lib.rt:108:9
 thread-at-requires : tie.Need-thread-at-requires
 thread-at-requires c κs = search needs
 
--- src/lib.rt:115:5
 put-thread-requires : tie.Need-put-thread-requires
 put-thread-requires c κs = search needs
 
--- src/lib.rt:105:1
 returns : tie.Need-returns
 unfolding standModel
 returns c = rw (c .put-thread .ensures, c .before .before .thread-at .ensures)

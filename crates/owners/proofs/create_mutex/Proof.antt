@@ -1,13 +1,12 @@
+-- `create_mutex` meets its contract: by what each call promises. Assumes nothing.
 use borrow.Author.Needs.{needs}
 use Rattle.scheduler.specs.Models.{createMutexModel}
 use Rattle.owners.proofs.create_mutex.Statement.{statement}
 use Rattle.owners.proofs.create_mutex.Tie as tie
 
--- src/lib.rt:244:5
 put-mutex-requires : tie.Need-put-mutex-requires
 put-mutex-requires c κs = search needs
 
--- src/lib.rt:236:1
 returns : tie.Need-returns
 unfolding createMutexModel
 returns c = rw (c .put-mutex .ensures)

@@ -1,3 +1,4 @@
+-- `pass` meets its contract: by what each call promises. Assumes nothing.
 use borrow.Author.Needs.{needs}
 use Rattle.scheduler.specs.Models.{passModel, passToModel}
 use borrow.Author.Tests.{le-leb, lt-leb}
@@ -9,19 +10,15 @@ use Rattle.moves.proofs.Waits.{leaves-mutex}
 use Rattle.owners.proofs.pass.Statement.{statement}
 use Rattle.owners.proofs.pass.Tie as tie
 
--- src/lib.rt:126:29
 add-head : tie.Need-add-head
 add-head c = search needs
 
--- src/lib.rt:126:9
 head-requires : tie.Need-head-requires
 head-requires c κs = search needs
 
--- src/lib.rt:128:9
 own-requires : tie.Need-own-requires
 own-requires c κs = search needs
 
--- src/lib.rt:129:9
 returns : tie.Need-returns
 unfolding passModel
 returns c =
@@ -29,23 +26,18 @@ returns c =
     let e = c .before .before .before .before .head .ensures ∙ ap headModel (for-mutex x (c .before .before .before .before .before .before .args .m)) in
     rw (← e, le-leb _ _ (c .before .before .if1 .taken)) (c .own .ensures)
 
--- src/lib.rt:131:17
 add-part : tie.Need-add-part
 add-part c = search needs
 
--- src/lib.rt:131:5
 part-requires : tie.Need-part-requires
 part-requires c κs = search needs
 
--- src/lib.rt:132:5
 own-requires-2 : tie.Need-own-requires-2
 own-requires-2 c κs = search needs
 
--- src/lib.rt:133:5
 arrive-requires : tie.Need-arrive-requires
 arrive-requires c κs = search needs
 
--- src/lib.rt:123:1
 returns-2 : tie.Need-returns-2
 unfolding passModel passToModel
 returns-2 c =

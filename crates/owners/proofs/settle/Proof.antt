@@ -1,3 +1,4 @@
+-- `settle` meets its contract: by what each call promises. Assumes nothing.
 use borrow.Author.Needs.{needs}
 use Prim.Native.Nat.{max}
 use mathlib.Core.Path.{ap, _∙_}
@@ -7,28 +8,22 @@ use Rattle.owners.proofs.Calls.{settles}
 use Rattle.owners.proofs.settle.Statement.{statement}
 use Rattle.owners.proofs.settle.Tie as tie
 
--- src/lib.rt:80:9
 returns : tie.Need-returns
 unfolding settleModel
 returns c = rw (le-ltb _ _ (c .if1 .taken))
 
--- src/lib.rt:82:9
 highest-ceiling-requires : tie.Need-highest-ceiling-requires
 highest-ceiling-requires c κs = search needs
 
--- src/lib.rt:83:9
 thread-at-requires : tie.Need-thread-at-requires
 thread-at-requires c κs = search needs
 
--- src/lib.rt:84:9
 larger-requires : tie.Need-larger-requires
 larger-requires c κs = search needs
 
--- src/lib.rt:91:5
 put-thread-requires : tie.Need-put-thread-requires
 put-thread-requires c κs = search needs
 
--- src/lib.rt:76:1
 returns-2 : tie.Need-returns-2
 returns-2 c = rw (c .put-thread .ensures) (settles _ _ _ _ (c .before .before .before .before .before .before .before .if1 .left) (c .before .before .before .thread-at .ensures) (c .before .before .larger .ensures ∙ ap (max (c .before .before .before .thread-at .result .base)) (c .before .before .before .before .before .highest-ceiling .ensures)))
 

@@ -1,3 +1,4 @@
+-- `signal` meets its contract: by what each call promises. Assumes nothing.
 use borrow.Author.Needs.{needs}
 use mathlib.Core.Path.{ap, _∙_}
 use mathlib.Core.Logic.{⊎-elim}
@@ -11,47 +12,36 @@ use Rattle.owners.proofs.Calls.{signals-none, signals-one}
 use Rattle.owners.proofs.signal.Statement.{statement}
 use Rattle.owners.proofs.signal.Tie as tie
 
--- src/lib.rt:192:29
 add-head : tie.Need-add-head
 add-head c = search needs
 
--- src/lib.rt:192:9
 head-requires : tie.Need-head-requires
 head-requires c κs = search needs
 
--- src/lib.rt:194:9
 returns : tie.Need-returns
 returns c = signals-none _ _ _ (c .before .before .head .ensures ∙ ap headModel (on-condition _ _)) (c .if1 .taken)
 
--- src/lib.rt:196:17
 add-part : tie.Need-add-part
 add-part c = search needs
 
--- src/lib.rt:196:5
 part-requires : tie.Need-part-requires
 part-requires c κs = search needs
 
--- src/lib.rt:197:9
 tie-at-requires : tie.Need-tie-at-requires
 tie-at-requires c κs = search needs
 
--- src/lib.rt:198:34
 add-highest-at : tie.Need-add-highest-at
 add-highest-at c = search needs
 
--- src/lib.rt:198:9
 highest-at-requires : tie.Need-highest-at-requires
 highest-at-requires c κs = search needs
 
--- src/lib.rt:200:9
 put-tie-requires : tie.Need-put-tie-requires
 put-tie-requires c κs = search needs
 
--- src/lib.rt:202:5
 wake-requires : tie.Need-wake-requires
 wake-requires c κs = search needs
 
--- src/lib.rt:189:1
 returns-2 : tie.Need-returns-2
 unfolding leaveConditionModel
 returns-2 c = rw (c .wake .ensures) (signals-one _ _ _ (c .before .before .before .before .before .before .before .before .before .before .before .head .ensures ∙ ap headModel (on-condition _ _)) (c .before .before .before .before .before .before .before .before .before .if1 .left) _ _ _ _ (c .before .before .before .before .before .before .before .part .ensures ∙ leaves-condition _ _ _) (c .before .before .before .highest-at .ensures) (c .before .before .before .before .before .tie-at .ensures) (⊎-elim (λ w. rw (le-leb _ _ (w .0 .taken)) (ap schedulerIn (w .3) ∙ w .2 .ensures)) (λ w. rw (lt-leb _ _ (w .0 .left)) (ap schedulerIn (w .1))) (c .before .before .if2 .came)))

@@ -1,3 +1,4 @@
+-- `acquire` meets its contract: by what each call promises. Assumes nothing.
 use borrow.Author.Needs.{needs}
 use mathlib.Core.Path.{ap, _∙_}
 use Rattle.engine.specs.Models.{withScheduler, acquireModel}
@@ -6,31 +7,24 @@ use Rattle.plain.proofs.Judging.{refused, accepted, acquire-judged}
 use Rattle.plain.proofs.acquire.Statement.{statement}
 use Rattle.plain.proofs.acquire.Tie as tie
 
--- src/lib.rt:85:9
 running-at-requires : tie.Need-running-at-requires
 running-at-requires c κs = search needs
 
--- src/lib.rt:86:9
 mutex-at-requires : tie.Need-mutex-at-requires
 mutex-at-requires c κs = search needs
 
--- src/lib.rt:87:9
 thread-at-requires : tie.Need-thread-at-requires
 thread-at-requires c κs = search needs
 
--- src/lib.rt:88:9
 acquire-verdict-requires : tie.Need-acquire-verdict-requires
 acquire-verdict-requires c κs = search needs
 
--- src/lib.rt:96:9
 number-requires : tie.Need-number-requires
 number-requires c κs = search needs
 
--- src/lib.rt:98:9
 refuse-requires : tie.Need-refuse-requires
 refuse-requires c κs = search needs
 
--- src/lib.rt:98:9
 returns : tie.Need-returns
 unfolding acquireModel
 returns c = λ clock.
@@ -40,15 +34,12 @@ returns c = λ clock.
     (c .before .before .before .before .acquire-verdict .ensures ∙ acquire-judged x (a .m) _ _ (c .before .before .before .before .before .before .before .before .before .running-at .ensures) (c .before .before .before .before .before .before .before .mutex-at .ensures) _ (c .before .before .before .before .before .thread-at .ensures))
     _ _ (c .refuse .ensures) (c .before .before .if1 .taken)
 
--- src/lib.rt:100:5
 acquire-requires : tie.Need-acquire-requires
 acquire-requires c κs = search needs
 
--- src/lib.rt:101:5
 finish-requires : tie.Need-finish-requires
 finish-requires c κs = search needs
 
--- src/lib.rt:82:1
 returns-2 : tie.Need-returns-2
 unfolding acquireModel
 returns-2 c = λ clock.

@@ -1,3 +1,4 @@
+-- `create_condition` meets its contract: by what each call promises. Assumes nothing.
 use borrow.Author.Needs.{needs}
 use Prim.Native.Nat.{_+_, _%_}
 use mathlib.Core.Path.{refl, ap, _∙_}
@@ -9,23 +10,18 @@ use Rattle.plain.proofs.Judging.{refused, accepted}
 use Rattle.plain.proofs.create_condition.Statement.{statement}
 use Rattle.plain.proofs.create_condition.Tie as tie
 
--- src/lib.rt:226:9
 room-verdict-requires : tie.Need-room-verdict-requires
 room-verdict-requires c κs = search needs
 
--- src/lib.rt:227:9
 number-requires : tie.Need-number-requires
 number-requires c κs = search needs
 
--- src/lib.rt:229:13
 refuse-requires : tie.Need-refuse-requires
 refuse-requires c κs = search needs
 
--- src/lib.rt:230:9
 with-answer-requires : tie.Need-with-answer-requires
 with-answer-requires c κs = search needs
 
--- src/lib.rt:230:9
 returns : tie.Need-returns
 unfolding createConditionModel
 returns c = λ clock.
@@ -34,23 +30,18 @@ returns c = λ clock.
     ap (λ (r : Counted). steppedIn (a .cells .now) clock (r .counts) (r .answer)) (c .with-answer .ensures)
     ∙ refused x (a .counts .conditions) _ _ _ (c .before .before .before .before .number .ensures) (c .before .before .before .before .before .room-verdict .ensures) _ _ (c .before .refuse .ensures) (c .before .before .before .if1 .taken)
 
--- src/lib.rt:232:25
 add-counts : tie.Need-add-counts
 add-counts c = search needs
 
--- src/lib.rt:233:40
 cast-finish : tie.Need-cast-finish
 cast-finish c = search needs
 
--- src/lib.rt:233:9
 finish-requires : tie.Need-finish-requires
 finish-requires c κs = search needs
 
--- src/lib.rt:234:5
 with-answer-requires-2 : tie.Need-with-answer-requires-2
 with-answer-requires-2 c κs = search needs
 
--- src/lib.rt:222:1
 returns-2 : tie.Need-returns-2
 unfolding createConditionModel
 returns-2 c = λ clock.

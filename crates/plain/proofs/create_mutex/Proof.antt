@@ -1,3 +1,4 @@
+-- `create_mutex` meets its contract: by what each call promises. Assumes nothing.
 use borrow.Author.Needs.{needs}
 use Prim.Native.Nat.{_+_, _%_}
 use mathlib.Core.Path.{ap, _∙_}
@@ -9,23 +10,18 @@ use Rattle.plain.proofs.Judging.{refused, accepted}
 use Rattle.plain.proofs.create_mutex.Statement.{statement}
 use Rattle.plain.proofs.create_mutex.Tie as tie
 
--- src/lib.rt:209:9
 created-verdict-requires : tie.Need-created-verdict-requires
 created-verdict-requires c κs = search needs
 
--- src/lib.rt:210:9
 number-requires : tie.Need-number-requires
 number-requires c κs = search needs
 
--- src/lib.rt:212:13
 refuse-requires : tie.Need-refuse-requires
 refuse-requires c κs = search needs
 
--- src/lib.rt:213:9
 with-answer-requires : tie.Need-with-answer-requires
 with-answer-requires c κs = search needs
 
--- src/lib.rt:213:9
 returns : tie.Need-returns
 unfolding createMutexModel
 returns c = λ clock.
@@ -34,27 +30,21 @@ returns c = λ clock.
     ap (λ (r : Counted). steppedIn (a .cells .now) clock (r .counts) (r .answer)) (c .with-answer .ensures)
     ∙ refused x (a .counts .mutexes) _ _ _ (c .before .before .before .before .number .ensures) (c .before .before .before .before .before .created-verdict .ensures) _ _ (c .before .refuse .ensures) (c .before .before .before .if1 .taken)
 
--- src/lib.rt:215:5
 create-mutex-requires : tie.Need-create-mutex-requires
 create-mutex-requires c κs = search needs
 
--- src/lib.rt:216:22
 add-counts : tie.Need-add-counts
 add-counts c = search needs
 
--- src/lib.rt:217:40
 cast-finish : tie.Need-cast-finish
 cast-finish c = search needs
 
--- src/lib.rt:217:9
 finish-requires : tie.Need-finish-requires
 finish-requires c κs = search needs
 
--- src/lib.rt:218:5
 with-answer-requires-2 : tie.Need-with-answer-requires-2
 with-answer-requires-2 c κs = search needs
 
--- src/lib.rt:205:1
 returns-2 : tie.Need-returns-2
 unfolding createMutexModel
 returns-2 c = λ clock.

@@ -1,3 +1,4 @@
+-- `finish` meets its contract: by what each call promises. Assumes nothing.
 use borrow.Author.Needs.{needs}
 use mathlib.Core.Path.{ap, _∙_}
 use mathlib.Core.Logic.{⊎-elim}
@@ -7,15 +8,12 @@ use Rattle.plain.proofs.Judging.{finished}
 use Rattle.plain.proofs.finish.Statement.{statement}
 use Rattle.plain.proofs.finish.Tie as tie
 
--- src/lib.rt:71:9
 choose-next-requires : tie.Need-choose-next-requires
 choose-next-requires c κs = search needs
 
--- src/lib.rt:73:9
 running-at-requires : tie.Need-running-at-requires
 running-at-requires c κs = search needs
 
--- src/lib.rt:67:1
 returns : tie.Need-returns
 returns c = λ clock.
     ap (λ t. steppedIn (c .before .before .if1 .cells) clock (c .before .before .before .args .counts) (record { number = 0; given = c .before .before .before .args .given; running = t })) (c .running-at .ensures)

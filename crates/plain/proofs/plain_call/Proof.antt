@@ -1,3 +1,4 @@
+-- `plain_call` meets its contract: each arm by its call. Assumes nothing.
 use borrow.Author.Needs.{needs}
 use mathlib.Core.Path.{refl}
 use Rattle.engine.specs.Models.{stepModel, refusedModel}
@@ -5,203 +6,156 @@ use Rattle.plain.specs.Standing.{plainModel}
 use Rattle.plain.proofs.plain_call.Statement.{statement}
 use Rattle.plain.proofs.plain_call.Tie as tie
 
--- src/lib.rt:259:30
 enum-told : tie.Need-enum-told
 enum-told c = search needs
 
--- src/lib.rt:259:24
 start-requires : tie.Need-start-requires
 start-requires c κs = search needs
 
--- src/lib.rt:260:28
 enum-known-call : tie.Need-enum-known-call
 enum-known-call c = search needs
 
--- src/lib.rt:260:37
 create-thread-requires : tie.Need-create-thread-requires
 create-thread-requires c κs = search needs
 
--- src/lib.rt:261:27
 enum-known-call-2 : tie.Need-enum-known-call-2
 enum-known-call-2 c = search needs
 
--- src/lib.rt:261:39
 create-mutex-requires : tie.Need-create-mutex-requires
 create-mutex-requires c κs = search needs
 
--- src/lib.rt:262:51
 enum-told-2 : tie.Need-enum-told-2
 enum-told-2 c = search needs
 
--- src/lib.rt:262:34
 create-condition-requires : tie.Need-create-condition-requires
 create-condition-requires c κs = search needs
 
--- src/lib.rt:263:43
 enum-told-3 : tie.Need-enum-told-3
 enum-told-3 c = search needs
 
--- src/lib.rt:263:30
 create-timer-requires : tie.Need-create-timer-requires
 create-timer-requires c κs = search needs
 
--- src/lib.rt:264:23
 enum-known-call-3 : tie.Need-enum-known-call-3
 enum-known-call-3 c = search needs
 
--- src/lib.rt:264:49
 acquire-requires : tie.Need-acquire-requires
 acquire-requires c κs = search needs
 
--- src/lib.rt:264:29
 with-answer-requires : tie.Need-with-answer-requires
 with-answer-requires c κs = search needs
 
--- src/lib.rt:265:23
 enum-known-call-4 : tie.Need-enum-known-call-4
 enum-known-call-4 c = search needs
 
--- src/lib.rt:265:49
 release-requires : tie.Need-release-requires
 release-requires c κs = search needs
 
--- src/lib.rt:265:29
 with-answer-requires-2 : tie.Need-with-answer-requires-2
 with-answer-requires-2 c κs = search needs
 
--- src/lib.rt:266:20
 enum-known-call-5 : tie.Need-enum-known-call-5
 enum-known-call-5 c = search needs
 
--- src/lib.rt:266:49
 wait-requires : tie.Need-wait-requires
 wait-requires c κs = search needs
 
--- src/lib.rt:266:29
 with-answer-requires-3 : tie.Need-with-answer-requires-3
 with-answer-requires-3 c κs = search needs
 
--- src/lib.rt:267:22
 enum-known-call-6 : tie.Need-enum-known-call-6
 enum-known-call-6 c = search needs
 
--- src/lib.rt:267:48
 signal-requires : tie.Need-signal-requires
 signal-requires c κs = search needs
 
--- src/lib.rt:267:28
 with-answer-requires-4 : tie.Need-with-answer-requires-4
 with-answer-requires-4 c κs = search needs
 
--- src/lib.rt:268:25
 enum-known-call-7 : tie.Need-enum-known-call-7
 enum-known-call-7 c = search needs
 
--- src/lib.rt:268:51
 broadcast-requires : tie.Need-broadcast-requires
 broadcast-requires c κs = search needs
 
--- src/lib.rt:268:31
 with-answer-requires-5 : tie.Need-with-answer-requires-5
 with-answer-requires-5 c κs = search needs
 
--- src/lib.rt:269:68
 enum-told-4 : tie.Need-enum-told-4
 enum-told-4 c = search needs
 
--- src/lib.rt:269:61
 refuse-requires : tie.Need-refuse-requires
 refuse-requires c κs = search needs
 
--- src/lib.rt:269:41
 with-answer-requires-6 : tie.Need-with-answer-requires-6
 with-answer-requires-6 c κs = search needs
 
--- src/lib.rt:270:58
 enum-told-5 : tie.Need-enum-told-5
 enum-told-5 c = search needs
 
--- src/lib.rt:270:51
 refuse-requires-2 : tie.Need-refuse-requires-2
 refuse-requires-2 c κs = search needs
 
--- src/lib.rt:270:31
 with-answer-requires-7 : tie.Need-with-answer-requires-7
 with-answer-requires-7 c κs = search needs
 
--- src/lib.rt:271:50
 enum-told-6 : tie.Need-enum-told-6
 enum-told-6 c = search needs
 
--- src/lib.rt:271:43
 refuse-requires-3 : tie.Need-refuse-requires-3
 refuse-requires-3 c κs = search needs
 
--- src/lib.rt:271:23
 with-answer-requires-8 : tie.Need-with-answer-requires-8
 with-answer-requires-8 c κs = search needs
 
--- src/lib.rt:255:1
 returns : tie.Need-returns
 unfolding stepModel plainModel
 returns c = λ clock. rw (c .before .before .enum-told .given .1) (c .start .ensures clock)
 
--- src/lib.rt:255:1
 returns-2 : tie.Need-returns-2
 unfolding stepModel plainModel
 returns-2 c = λ clock. rw (c .before .before .before .call .given .1) (c .create-thread .ensures clock)
 
--- src/lib.rt:255:1
 returns-3 : tie.Need-returns-3
 unfolding stepModel plainModel
 returns-3 c = λ clock. rw (c .before .before .before .call2 .given .1) (c .create-mutex .ensures clock)
 
--- src/lib.rt:255:1
 returns-4 : tie.Need-returns-4
 unfolding stepModel plainModel
 returns-4 c = λ clock. rw (c .before .before .enum-told2 .given .1) (c .create-condition .ensures clock)
 
--- src/lib.rt:255:1
 returns-5 : tie.Need-returns-5
 unfolding stepModel plainModel
 returns-5 c = λ clock. rw (c .before .before .enum-told3 .given .1) (c .create-timer .ensures clock)
 
--- src/lib.rt:255:1
 returns-6 : tie.Need-returns-6
 unfolding stepModel plainModel
 returns-6 c = λ clock. rw (c .with-answer .ensures, c .before .before .before .before .call3 .given .1) (c .before .acquire .ensures clock)
 
--- src/lib.rt:255:1
 returns-7 : tie.Need-returns-7
 unfolding stepModel plainModel
 returns-7 c = λ clock. rw (c .with-answer2 .ensures, c .before .before .before .before .call4 .given .1) (c .before .release .ensures clock)
 
--- src/lib.rt:255:1
 returns-8 : tie.Need-returns-8
 unfolding stepModel plainModel
 returns-8 c = λ clock. rw (c .with-answer3 .ensures, c .before .before .before .before .call5 .given .1) (c .before .wait .ensures clock)
 
--- src/lib.rt:255:1
 returns-9 : tie.Need-returns-9
 unfolding stepModel plainModel
 returns-9 c = λ clock. rw (c .with-answer4 .ensures, c .before .before .before .before .call6 .given .1) (c .before .signal .ensures clock)
 
--- src/lib.rt:255:1
 returns-10 : tie.Need-returns-10
 unfolding stepModel plainModel
 returns-10 c = λ clock. rw (c .with-answer5 .ensures, c .before .before .before .before .call7 .given .1) (c .before .broadcast .ensures clock)
 
--- src/lib.rt:255:1
 returns-11 : tie.Need-returns-11
 unfolding plainModel refusedModel
 returns-11 c = λ clock. rw (c .with-answer6 .ensures, c .before .before .before .enum-told4 .given .1, c .before .refuse .ensures) refl
 
--- src/lib.rt:255:1
 returns-12 : tie.Need-returns-12
 unfolding plainModel refusedModel
 returns-12 c = λ clock. rw (c .with-answer7 .ensures, c .before .before .before .enum-told5 .given .1, c .before .refuse2 .ensures) refl
 
--- src/lib.rt:255:1
 returns-13 : tie.Need-returns-13
 unfolding plainModel refusedModel
 returns-13 c = λ clock. rw (c .with-answer8 .ensures, c .before .before .before .enum-told6 .given .1, c .before .refuse3 .ensures) refl

@@ -1,16 +1,14 @@
+-- `refuse` meets its contract: field by field. Assumes nothing.
 use borrow.Author.Needs.{needs}
 use Rattle.plain.proofs.refuse.Statement.{statement}
 use Rattle.plain.proofs.refuse.Tie as tie
 
--- src/lib.rt:57:9
 running-at-requires : tie.Need-running-at-requires
 running-at-requires c κs = search needs
 
--- src/lib.rt:58:9
 number-requires : tie.Need-number-requires
 number-requires c κs = search needs
 
--- src/lib.rt:54:1
 returns : tie.Need-returns
 returns c = λ i. record { number = c .number .ensures i; given = 255; running = c .before .running-at .ensures i }
 

@@ -1,3 +1,4 @@
+-- `release` meets its contract: by what each call promises. Assumes nothing.
 use borrow.Author.Needs.{needs}
 use mathlib.Core.Path.{ap, _∙_}
 use Rattle.engine.specs.Models.{withScheduler, releaseModel}
@@ -6,27 +7,21 @@ use Rattle.plain.proofs.Judging.{refused, accepted, release-judged}
 use Rattle.plain.proofs.release.Statement.{statement}
 use Rattle.plain.proofs.release.Tie as tie
 
--- src/lib.rt:108:9
 running-at-requires : tie.Need-running-at-requires
 running-at-requires c κs = search needs
 
--- src/lib.rt:109:9
 mutex-at-requires : tie.Need-mutex-at-requires
 mutex-at-requires c κs = search needs
 
--- src/lib.rt:110:9
 release-verdict-requires : tie.Need-release-verdict-requires
 release-verdict-requires c κs = search needs
 
--- src/lib.rt:111:9
 number-requires : tie.Need-number-requires
 number-requires c κs = search needs
 
--- src/lib.rt:113:9
 refuse-requires : tie.Need-refuse-requires
 refuse-requires c κs = search needs
 
--- src/lib.rt:113:9
 returns : tie.Need-returns
 unfolding releaseModel
 returns c = λ clock.
@@ -36,15 +31,12 @@ returns c = λ clock.
     (c .before .before .before .before .release-verdict .ensures ∙ release-judged x (a .m) _ _ (c .before .before .before .before .before .before .before .running-at .ensures) (c .before .before .before .before .before .mutex-at .ensures))
     _ _ (c .refuse .ensures) (c .before .before .if1 .taken)
 
--- src/lib.rt:115:5
 release-requires : tie.Need-release-requires
 release-requires c κs = search needs
 
--- src/lib.rt:116:5
 finish-requires : tie.Need-finish-requires
 finish-requires c κs = search needs
 
--- src/lib.rt:105:1
 returns-2 : tie.Need-returns-2
 unfolding releaseModel
 returns-2 c = λ clock.

@@ -1,3 +1,4 @@
+-- `signal` meets its contract: by what each call promises. Assumes nothing.
 use borrow.Author.Needs.{needs}
 use mathlib.Core.Bool.{false}
 use Rattle.scheduler.specs.Models.{Signalled}
@@ -8,19 +9,15 @@ use Rattle.plain.proofs.Judging.{refused, accepted}
 use Rattle.plain.proofs.signal.Statement.{statement}
 use Rattle.plain.proofs.signal.Tie as tie
 
--- src/lib.rt:142:9
 id-verdict-requires : tie.Need-id-verdict-requires
 id-verdict-requires c κs = search needs
 
--- src/lib.rt:143:9
 number-requires : tie.Need-number-requires
 number-requires c κs = search needs
 
--- src/lib.rt:145:9
 refuse-requires : tie.Need-refuse-requires
 refuse-requires c κs = search needs
 
--- src/lib.rt:145:9
 returns : tie.Need-returns
 unfolding signalModel
 returns c = λ clock.
@@ -28,15 +25,12 @@ returns c = λ clock.
     let x = engineIn (a .cells .now) clock (a .counts) in
     refused x _ _ _ _ (c .before .before .before .number .ensures) (c .before .before .before .before .id-verdict .ensures) _ _ (c .refuse .ensures) (c .before .before .if1 .taken)
 
--- src/lib.rt:147:9
 signal-requires : tie.Need-signal-requires
 signal-requires c κs = search needs
 
--- src/lib.rt:148:5
 finish-requires : tie.Need-finish-requires
 finish-requires c κs = search needs
 
--- src/lib.rt:139:1
 returns-2 : tie.Need-returns-2
 unfolding signalModel
 returns-2 c = λ clock.

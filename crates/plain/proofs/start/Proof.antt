@@ -1,3 +1,4 @@
+-- `start` meets its contract: by what each call promises. Assumes nothing.
 use borrow.Author.Needs.{needs}
 use mathlib.Core.Bool.{true}
 use mathlib.Core.Path.{ap, _∙_}
@@ -9,23 +10,18 @@ use Rattle.plain.proofs.Judging.{refused, accepted}
 use Rattle.plain.proofs.start.Statement.{statement}
 use Rattle.plain.proofs.start.Tie as tie
 
--- src/lib.rt:175:9
 start-verdict-requires : tie.Need-start-verdict-requires
 start-verdict-requires c κs = search needs
 
--- src/lib.rt:176:9
 number-requires : tie.Need-number-requires
 number-requires c κs = search needs
 
--- src/lib.rt:178:13
 refuse-requires : tie.Need-refuse-requires
 refuse-requires c κs = search needs
 
--- src/lib.rt:179:9
 with-answer-requires : tie.Need-with-answer-requires
 with-answer-requires c κs = search needs
 
--- src/lib.rt:179:9
 returns : tie.Need-returns
 unfolding startModel
 returns c = λ clock.
@@ -34,19 +30,15 @@ returns c = λ clock.
     ap (λ (r : Counted). steppedIn (a .cells .now) clock (r .counts) (r .answer)) (c .with-answer .ensures)
     ∙ refused x 255 _ _ _ (c .before .before .before .before .number .ensures) (c .before .before .before .before .before .start-verdict .ensures) _ _ (c .before .refuse .ensures) (c .before .before .before .if1 .taken)
 
--- src/lib.rt:181:5
 run-first-requires : tie.Need-run-first-requires
 run-first-requires c κs = search needs
 
--- src/lib.rt:183:9
 finish-requires : tie.Need-finish-requires
 finish-requires c κs = search needs
 
--- src/lib.rt:184:5
 with-answer-requires-2 : tie.Need-with-answer-requires-2
 with-answer-requires-2 c κs = search needs
 
--- src/lib.rt:172:1
 returns-2 : tie.Need-returns-2
 unfolding startModel
 returns-2 c = λ clock.

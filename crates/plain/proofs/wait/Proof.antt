@@ -1,3 +1,4 @@
+-- `wait` meets its contract: by what each call promises. Assumes nothing.
 use borrow.Author.Needs.{needs}
 use mathlib.Core.Path.{ap₂}
 use Rattle.verdicts.specs.Models.{firstOf}
@@ -8,43 +9,33 @@ use Rattle.plain.proofs.Judging.{refused, accepted, wait-judged}
 use Rattle.plain.proofs.wait.Statement.{statement}
 use Rattle.plain.proofs.wait.Tie as tie
 
--- src/lib.rt:123:9
 running-at-requires : tie.Need-running-at-requires
 running-at-requires c κs = search needs
 
--- src/lib.rt:124:9
 mutex-at-requires : tie.Need-mutex-at-requires
 mutex-at-requires c κs = search needs
 
--- src/lib.rt:125:9
 tie-at-requires : tie.Need-tie-at-requires
 tie-at-requires c κs = search needs
 
--- src/lib.rt:126:9
 owned-by-requires : tie.Need-owned-by-requires
 owned-by-requires c κs = search needs
 
--- src/lib.rt:127:9
 ids-verdict-requires : tie.Need-ids-verdict-requires
 ids-verdict-requires c κs = search needs
 
--- src/lib.rt:128:9
 held-verdict-requires : tie.Need-held-verdict-requires
 held-verdict-requires c κs = search needs
 
--- src/lib.rt:129:9
 first-of-requires : tie.Need-first-of-requires
 first-of-requires c κs = search needs
 
--- src/lib.rt:130:9
 number-requires : tie.Need-number-requires
 number-requires c κs = search needs
 
--- src/lib.rt:132:9
 refuse-requires : tie.Need-refuse-requires
 refuse-requires c κs = search needs
 
--- src/lib.rt:132:9
 returns : tie.Need-returns
 unfolding waitModel
 returns c = λ clock.
@@ -54,15 +45,12 @@ returns c = λ clock.
     (c .before .before .before .before .first-of .ensures ∙ ap₂ firstOf (c .before .before .before .before .before .before .ids-verdict .ensures) (c .before .before .before .before .before .held-verdict .ensures) ∙ wait-judged x (a .m) _ _ (c .before .before .before .before .before .before .before .before .before .before .before .before .before .running-at .ensures) (c .before .before .before .before .before .before .before .before .before .before .before .mutex-at .ensures) (a .c) _ _ (c .before .before .before .before .before .before .before .owned-by .ensures) (c .before .before .before .before .before .before .before .before .before .tie-at .ensures))
     _ _ (c .refuse .ensures) (c .before .before .if1 .taken)
 
--- src/lib.rt:134:5
 wait-requires : tie.Need-wait-requires
 wait-requires c κs = search needs
 
--- src/lib.rt:135:5
 finish-requires : tie.Need-finish-requires
 finish-requires c κs = search needs
 
--- src/lib.rt:120:1
 returns-2 : tie.Need-returns-2
 unfolding waitModel
 returns-2 c = λ clock.

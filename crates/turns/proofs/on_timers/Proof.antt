@@ -1,121 +1,96 @@
+-- `on_timers` meets its contract: each arm by its call. Assumes nothing.
 use borrow.Author.Needs.{needs}
 use Rattle.turns.specs.Turning.{onTimers}
 use Rattle.turns.proofs.on_timers.Statement.{statement}
 use Rattle.turns.proofs.on_timers.Tie as tie
 
--- src/lib.rt:79:24
 enum-told : tie.Need-enum-told
 enum-told c = search needs
 
--- src/lib.rt:80:34
 enum-told-2 : tie.Need-enum-told-2
 enum-told-2 c = search needs
 
--- src/lib.rt:81:33
 enum-told-3 : tie.Need-enum-told-3
 enum-told-3 c = search needs
 
--- src/lib.rt:82:34
 enum-told-4 : tie.Need-enum-told-4
 enum-told-4 c = search needs
 
--- src/lib.rt:83:30
 enum-told-5 : tie.Need-enum-told-5
 enum-told-5 c = search needs
 
--- src/lib.rt:84:29
 enum-told-6 : tie.Need-enum-told-6
 enum-told-6 c = search needs
 
--- src/lib.rt:85:29
 enum-told-7 : tie.Need-enum-told-7
 enum-told-7 c = search needs
 
--- src/lib.rt:86:29
 enum-told-8 : tie.Need-enum-told-8
 enum-told-8 c = search needs
 
--- src/lib.rt:87:28
 enum-told-9 : tie.Need-enum-told-9
 enum-told-9 c = search needs
 
--- src/lib.rt:88:31
 enum-told-10 : tie.Need-enum-told-10
 enum-told-10 c = search needs
 
--- src/lib.rt:89:41
 enum-told-11 : tie.Need-enum-told-11
 enum-told-11 c = search needs
 
--- src/lib.rt:90:31
 enum-told-12 : tie.Need-enum-told-12
 enum-told-12 c = search needs
 
--- src/lib.rt:91:23
 enum-told-13 : tie.Need-enum-told-13
 enum-told-13 c = search needs
 
--- src/lib.rt:75:1
 returns : tie.Need-returns
 unfolding onTimers
 returns c = rw (c .enum-told .given .1)
 
--- src/lib.rt:75:1
 returns-2 : tie.Need-returns-2
 unfolding onTimers
 returns-2 c = rw (c .enum-told2 .given .1)
 
--- src/lib.rt:75:1
 returns-3 : tie.Need-returns-3
 unfolding onTimers
 returns-3 c = rw (c .enum-told3 .given .1)
 
--- src/lib.rt:75:1
 returns-4 : tie.Need-returns-4
 unfolding onTimers
 returns-4 c = rw (c .enum-told4 .given .1)
 
--- src/lib.rt:75:1
 returns-5 : tie.Need-returns-5
 unfolding onTimers
 returns-5 c = rw (c .enum-told5 .given .1)
 
--- src/lib.rt:75:1
 returns-6 : tie.Need-returns-6
 unfolding onTimers
 returns-6 c = rw (c .enum-told6 .given .1)
 
--- src/lib.rt:75:1
 returns-7 : tie.Need-returns-7
 unfolding onTimers
 returns-7 c = rw (c .enum-told7 .given .1)
 
--- src/lib.rt:75:1
 returns-8 : tie.Need-returns-8
 unfolding onTimers
 returns-8 c = rw (c .enum-told8 .given .1)
 
--- src/lib.rt:75:1
 returns-9 : tie.Need-returns-9
 unfolding onTimers
 returns-9 c = rw (c .enum-told9 .given .1)
 
--- src/lib.rt:75:1
 returns-10 : tie.Need-returns-10
 unfolding onTimers
 returns-10 c = rw (c .enum-told10 .given .1)
 
--- src/lib.rt:75:1
 returns-11 : tie.Need-returns-11
 unfolding onTimers
 returns-11 c = rw (c .enum-told11 .given .1)
 
--- src/lib.rt:75:1
 returns-12 : tie.Need-returns-12
 unfolding onTimers
 returns-12 c = rw (c .enum-told12 .given .1)
 
--- src/lib.rt:75:1
 returns-13 : tie.Need-returns-13
 unfolding onTimers
 returns-13 c = rw (c .enum-told13 .given .1)

@@ -1,3 +1,4 @@
+-- `plain_row` meets its contract: by what each call promises. Assumes nothing.
 use borrow.Author.Needs.{needs}
 use mathlib.Core.Path.{refl}
 use Rattle.engine.specs.Models.{refusedModel}
@@ -5,28 +6,22 @@ use Rattle.turns.specs.Turning.{plainRow}
 use Rattle.turns.proofs.plain_row.Statement.{statement}
 use Rattle.turns.proofs.plain_row.Tie as tie
 
--- src/lib.rt:109:24
 enum-known-decoded : tie.Need-enum-known-decoded
 enum-known-decoded c = search needs
 
--- src/lib.rt:110:29
 enum-told : tie.Need-enum-told
 enum-told c = search needs
 
--- src/lib.rt:110:13
 refuse-requires : tie.Need-refuse-requires
 refuse-requires c κs = search needs
 
--- src/lib.rt:111:9
 returns : tie.Need-returns
 unfolding plainRow refusedModel
 returns c = λ clock. rw (c .before .before .enum-told .given .1, c .refuse .ensures) refl
 
--- src/lib.rt:113:5
 plain-call-requires : tie.Need-plain-call-requires
 plain-call-requires c κs = search needs
 
--- src/lib.rt:106:1
 returns-2 : tie.Need-returns-2
 unfolding plainRow
 returns-2 c = λ clock. rw (c .before .before .before .decoded .given .1) (c .plain-call .ensures clock)

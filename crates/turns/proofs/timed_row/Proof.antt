@@ -1,30 +1,25 @@
+-- `timed_row` meets its contract: by what each call promises. Assumes nothing.
 use borrow.Author.Needs.{needs}
 use Rattle.turns.specs.Turning.{timedRow}
 use Rattle.turns.proofs.timed_row.Statement.{statement}
 use Rattle.turns.proofs.timed_row.Tie as tie
 
--- src/lib.rt:155:24
 enum-known-decoded : tie.Need-enum-known-decoded
 enum-known-decoded c = search needs
 
--- src/lib.rt:156:26
 enum-told : tie.Need-enum-told
 enum-told c = search needs
 
--- src/lib.rt:156:9
 not-timed-requires : tie.Need-not-timed-requires
 not-timed-requires c κs = search needs
 
--- src/lib.rt:156:9
 returns : tie.Need-returns
 unfolding timedRow
 returns c = rw (c .before .before .enum-told .given .1) (c .not-timed .ensures _)
 
--- src/lib.rt:158:5
 timed-call-requires : tie.Need-timed-call-requires
 timed-call-requires c κs = search needs
 
--- src/lib.rt:152:1
 returns-2 : tie.Need-returns-2
 unfolding timedRow
 returns-2 c = rw (c .before .before .before .decoded .given .1) (c .timed-call .ensures)
