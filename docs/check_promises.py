@@ -20,8 +20,13 @@ PAGE = TOP / "docs" / "PROMISES.md"
 HEADING = "| Function | Promise | One result by |"
 EXCEPTIONS = {"reading::open": "`form`; the page is promised for right form alone, and load reads it then only"}
 OUTSIDE = "files"
-# The array after a call, or made by it, as the scheduler that it stands for.
-IN_PLACE = re.compile(r"(schedulerIn|steppedIn|signalledIn) \(now \(cells \.exit\)\)|schedulerIn r ≡")
+# An array after a call, or made by it, as what it stands for, and the theorem that one array does so.
+IN_PLACE = {
+    "steppedIn (now (cells .exit))": "`stepped-once`",
+    "signalledIn (now (cells .exit))": "`signalled-once`",
+    "schedulerIn (now (cells .exit))": "`bytes-once`",
+    "schedulerIn r ≡": "`bytes-once`",
+}
 
 
 def crates() -> List[str]:
@@ -99,8 +104,9 @@ def one_result(name: str, promise: str) -> str:
         return EXCEPTIONS[name]
     if name.startswith(OUTSIDE + "::") and "≡" not in promise:
         return "open: it speaks to the system, which decides"
-    if IN_PLACE.search(promise):
-        return "`bytes-once`"
+    for form, theorem in IN_PLACE.items():
+        if form in promise:
+            return theorem
     if "Saves " in promise:
         return "`saves-once`"
     if "Steps " in promise:
