@@ -50,10 +50,6 @@ module _ (k z : List ℕ) (a e : ℕ) (else : (j : ℕ) → (a ≤ j → j < e �
   sets-stay : (o : ℕ) → ((j : ℕ) → 160 + o * 32 ≤ j → j < 672 + o * 32 → a ≤ j → j < e → ⊥) → tabulate 16 (λ m. setIn z (o + m)) ≡ tabulate 16 (λ m. setIn k (o + m))
   sets-stay o h = tabulate-below 16 (λ m. setIn z (o + m)) (λ m. setIn k (o + m)) (λ m l. set-stays (o + m) (λ j x y. h j (omega arith) (omega arith)))
 
-  -- all sets
-  abbrev SetsStay : Type 0
-  SetsStay = (j : ℕ) → 160 ≤ j → j < 1216 → a ≤ j → j < e → ⊥
-
 -- ---- what changes
 
 -- the bytes of the row of thread t

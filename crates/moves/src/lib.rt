@@ -1,27 +1,22 @@
-// What the calls do to the scheduler, in place: threads join and leave queues, run, own mutexes and wait. Set 0 holds the ready queues, sets 1 to
+// How threads move, in place: they join and leave queues, run, and wait. Set 0 holds the ready queues, sets 1 to
 // 16 those of the mutexes, sets 17 to 32 those of the condition variables.
 // An id is taken modulo the size of its table, so that every function is total; callers hand in ids that exist.
 use cells::highest_at;
 use cells::link_at;
-use cells::mutex_at;
 use cells::put_link;
-use cells::put_mutex;
 use cells::put_queue;
 use cells::put_running;
 use cells::put_thread;
-use cells::put_tie;
 use cells::queue_at;
 use cells::running_at;
 use cells::thread_at;
-use cells::tie_at;
 use parts::Head;
 use parts::Thread;
 use queue::Queue;
-use scheduler::Mutex;
 ghost use mathlib.Core.Path.{_≡_};
-ghost use Prim.Native.Nat.{_+_, _%_, max};
-ghost use Rattle.parts.specs.Models.{joinModel, joinFrontModel, partModel, headModel, standModel, liftModel, arriveInFrontModel};
-ghost use Rattle.scheduler.specs.Models.{withThreads, readyModel, highestIn, settleModel, ownModel, recountModel, waitForModel, waitOnModel, createModel, passModel, acquireModel, releaseModel, waitModel, wakeModel, signalModel, broadcastModel, runFirstModel, chooseNextModel, createMutexModel};
+ghost use Prim.Native.Nat.{_%_};
+ghost use Rattle.parts.specs.Models.{joinModel, joinFrontModel, partModel, headModel, standModel, arriveInFrontModel};
+ghost use Rattle.scheduler.specs.Models.{withThreads, readyModel, waitForModel, waitOnModel, runFirstModel, chooseNextModel};
 ghost use Rattle.cells.specs.Cells.{schedulerIn};
 ghost use Rattle.cells.specs.Changes.{setOf};
 ghost use Rattle.moves.specs.Joining.{linksOf, withJoined};

@@ -6,7 +6,7 @@ use units::Length;
 use units::Micros;
 use units::ticks_of;
 ghost use mathlib.Core.Path.{_≡_};
-ghost use Rattle.verdicts.specs.Models.{createdVerdict, roomVerdict, startVerdict, acquireVerdict, releaseVerdict, heldVerdict, idsVerdict, firstOf, idVerdict, delayVerdict, stopVerdict, ownedOne, ownedIn};
+ghost use Rattle.verdicts.specs.Models.{createdVerdict, roomVerdict, startVerdict, acquireVerdict, releaseVerdict, heldVerdict, idsVerdict, firstOf, idVerdict, delayVerdict, stopVerdict, ownedOne};
 
 // Whether a thread or a mutex can be created.
 pub fn created_verdict(value: u8, count: u8, limit: u8) -> Verdict
