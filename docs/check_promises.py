@@ -4,8 +4,8 @@
     check_promises.py --table    writes the table of public functions as the tree has it
 
 Each name in backticks in the first table has to exist in the crate that is named before it: a definition in specs/, a theorem in proofs/, a
-function in src/, an edit in must-fail/, or a file. Each public function of each library has to stand in the second table with its promise as
-the code has it, and no other. Functions of the library `files` speak to the system, which decides their result where no equation is promised.
+function in src/, a wrong program in must-fail/, or a file. Each public function of each library has to stand in the second table with its promise as
+the code has it and with two wrong programs that the promise rules out, and no other function. Functions of the library `files` speak to the system, which decides their result where no equation is promised.
 """
 
 from __future__ import annotations
@@ -15,11 +15,15 @@ import sys
 from pathlib import Path
 from typing import Dict, Iterator, List, Tuple
 
+from edits import Wrong, wrongs
+
 TOP = Path(__file__).resolve().parent.parent
 PAGE = TOP / "docs" / "PROMISES.md"
-HEADING = "| Function | Promise | One result by |"
+HEADING = "| Function | Promise | One result by | Rules out |"
 EXCEPTIONS = {"reading::open": "`form`; the page is promised for right form alone, and load reads it then only"}
 OUTSIDE = "files"
+OPEN = "open: it speaks to the system, which decides"
+WRONGS: List[Wrong] = list(wrongs())
 # An array after a call, or made by it, as what it stands for, and the theorem that one array does so.
 IN_PLACE = {
     "steppedIn (now (cells .exit))": "`stepped-once`",
@@ -43,7 +47,7 @@ def texts(crate: str, folder: str, ending: str) -> str:
 
 def is_there(crate: str, name: str) -> bool:
     """Whether a crate has a definition, a theorem, a function or an edit of this name."""
-    if (TOP / "crates" / crate / "must-fail" / (name + ".edit")).is_file():
+    if any(wrong.crate == crate and wrong.name == name for wrong in WRONGS):
         return True
     if (TOP / "crates" / crate / "specs" / (name + ".antt")).is_file():
         return True
@@ -75,7 +79,7 @@ def check_names(text: str) -> List[Tuple[str, bool]]:
             continue
         for cell in line.strip("|").split("|")[1:]:
             for crate, name in names_in(cell, known):
-                if "/" in name:
+                if "/" in name or name.endswith(".txt"):
                     found = (TOP / name).exists()
                 elif not crate:
                     found = any(is_there(other, name) for other in known) or name in known
@@ -103,7 +107,7 @@ def one_result(name: str, promise: str) -> str:
     if name in EXCEPTIONS:
         return EXCEPTIONS[name]
     if name.startswith(OUTSIDE + "::") and "≡" not in promise:
-        return "open: it speaks to the system, which decides"
+        return OPEN
     for form, theorem in IN_PLACE.items():
         if form in promise:
             return theorem
@@ -116,15 +120,23 @@ def one_result(name: str, promise: str) -> str:
     return "`equation-once`" if "≡" in promise else ""
 
 
+def ruled_out(name: str, promise: str) -> str:
+    """The wrong programs of a function, of which there are to be two; where the system decides the result there is no wrong one."""
+    found = ["`%s`" % wrong.name for wrong in WRONGS if "%s::%s" % (wrong.crate, wrong.function) == name]
+    if not found and one_result(name, promise) == OPEN:
+        return "none"
+    return ", ".join(found) if len(found) >= 2 else ""
+
+
 def table() -> List[str]:
     """The table of public functions as the tree has it."""
-    lines = [HEADING, "|---|---|---|"]
+    lines = [HEADING, "|---|---|---|---|"]
     for crate in crates():
         if (TOP / "crates" / crate / "src" / "lib.rt").is_file():
             for name, promise in functions_of(crate):
                 shown = promise.replace("|", "\\|")
                 said = "`%s`" % shown if shown else "none"
-                lines.append("| `%s` | %s | %s |" % (name, said, one_result(name, promise)))
+                lines.append("| `%s` | %s | %s | %s |" % (name, said, one_result(name, promise), ruled_out(name, promise)))
     return lines
 
 
@@ -137,7 +149,7 @@ def main(arguments: List[str]) -> int:
     results: Dict[str, bool] = dict(check_names(text))
     held = set(text.splitlines())
     for line in table()[2:]:
-        results[line] = line in held and not line.endswith("|  |")
+        results[line] = line in held and "|  |" not in line
     known = set(table())
     for line in text.split(HEADING)[-1].splitlines():
         if line.startswith("| `"):

@@ -1,10 +1,11 @@
 """Lists the first error of each wrong program, so that a reader can see why it is refused.
 
-    first_errors.py [TARGET]     TARGET is the folder target/ of a tree in which `rt ci` or `rt must-fail` has run
+    first_errors.py [CRATE...]     after `rt ci` or `rt must-fail`, which leave in target/must-fail/ what the prover said
 
-One line for each must-fail edit: its crate and name, the place of the first error, and its words. An edit that is refused because a name is missing shows
-nothing about a promise, so each such edit counts as failed, and so does one that was not tried. The last line is `N passed, M failed`; the exit status is 0
-only if something was listed and M is 0.
+One line for each wrong program: its crate and name, the place of the first error in the proof or the text of its function, and the error's words; for an edit
+of a definition the first error of all. A wrong program that is refused because a name is missing, or only because another one is refused, shows nothing about a
+promise, so each such one counts as failed, and so does one that was not tried. The last line is `N passed, M failed`; the exit status is 0 only if something
+was listed and M is 0.
 """
 
 from __future__ import annotations
@@ -12,45 +13,63 @@ from __future__ import annotations
 import re
 import sys
 from pathlib import Path
-from typing import List, Tuple
+from typing import Iterator, List, Tuple
 
-TOP = Path(__file__).resolve().parent.parent
-# How the prover says that a name or a field is not there, or that a file cannot be read.
-MISSING = re.compile(r"has no (field )?`|is not in scope|cannot be named|can be named|no such|unknown-|not found")
-ERROR = re.compile(r"^(\S+?:\d+:\d+): error: (.*)$")
-NOTE = re.compile(r"^note: .*?(\S+?:\d+:\d+): (.*no proof of.*)$")
+from edits import TOP, Wrong, wrongs
+
+# How the prover says that a name or a field is not there, that a file cannot be read, or that a proof stands on one that was refused.
+NO_FACT = re.compile(r"has no (field )?`|is not in scope|cannot be named|can be named|no such|unknown-|not found|was not admitted")
+ERROR = re.compile(r"^(\S+?):(\d+):\d+: error: (.*)$")
+NOTE = re.compile(r"^note: (\S+?):(\d+):\d+: (.*)$")
 
 
-def first_error(log: str) -> Tuple[str, str]:
-    """The place and the words of the first error of a log."""
+def errors(log: str) -> Iterator[Tuple[str, int, str]]:
+    """File, line and words of each error of a log: those of written proofs, then those of proofs that the prover made."""
     for pattern in (ERROR, NOTE):
         for line in log.splitlines():
             found = pattern.match(line)
             if found:
-                return found.group(1), found.group(2)
-    return "", ""
+                yield found.group(1), int(found.group(2)), found.group(3)
 
 
-def judge(target: Path, crate: str, name: str) -> Tuple[str, bool]:
-    """One line on an edit, and whether it is refused at a fact."""
-    where = target / "must-fail" / crate / name
-    log = where / ".log"
-    if not log.is_file():
-        return f"{crate}/{name}: not tried", False
-    place, words = first_error(log.read_text(encoding="utf-8"))
-    short = place.split(f"/{name}/")[-1]
-    good = bool(words) and not MISSING.search(words)
-    return f"{crate}/{name}: {short}: {words[:120]}" + ("" if good else "  <- not at a fact"), good
+def lines_of(source: Path, function: str) -> range:
+    """The lines at which a function stands alone in its file, up to the line that has the next function; none where it is not there."""
+    kind, first = "", 0
+    for at, line in enumerate(source.read_text(encoding="utf-8").splitlines(), 1):
+        if first and re.match(r"[^/]*\bfn \w", line):
+            return range(first, at)
+        block = re.match(r"impl (\w+)", line)
+        kind = block.group(1) if block else kind
+        begin = re.match(r"( *)(?:pub )?(?:extern \"C\" )?fn (\w+)", line)
+        if begin and function == (f"{kind}::{begin.group(2)}" if begin.group(1) else begin.group(2)):
+            first = at
+    return range(first, first and sys.maxsize)
 
 
-def main(words: List[str]) -> int:
-    """Read the command line; the exit status."""
-    if len(words) > 1:
-        print("usage: first_errors.py [TARGET]", file=sys.stderr)
-        return 2
-    target = Path(words[0]) if words else TOP / "target"
-    edits = sorted((TOP / "crates").glob("*/must-fail/*.edit"))
-    results = [judge(target, edit.parent.parent.name, edit.stem) for edit in edits]
+def is_of(room: Path, function: str, file: str, line: int) -> bool:
+    """Whether an error stands in a function's proof or in its text."""
+    if file.startswith(f"{room}/proofs/{function.replace('::', '/')}/"):
+        return True
+    return file.startswith(f"{room}/src/") and line in lines_of(Path(file), function)
+
+
+def judge(wrong: Wrong) -> Tuple[str, bool]:
+    """One line on a wrong program, and whether it is refused at a fact."""
+    room = TOP / "target" / "must-fail" / wrong.crate / wrong.edit
+    title = f"{wrong.crate}/{wrong.name}" + (f" in {wrong.function}" if wrong.function else "")
+    if not (room / ".log").is_file():
+        return f"{title}: not tried", False
+    for file, line, words in errors((room / ".log").read_text(encoding="utf-8")):
+        if not wrong.function or is_of(room, wrong.function, file, line):
+            good = not NO_FACT.search(words)
+            place = file.replace(f"{room}/", "")
+            return f"{title}: {place}:{line}: {words[:120]}" + ("" if good else "  <- not at a fact"), good
+    return f"{title}: no error there", False
+
+
+def main(names: List[str]) -> int:
+    """List what was asked for; the exit status."""
+    results = [judge(wrong) for wrong in wrongs() if not names or wrong.crate in names]
     for line, _ in results:
         print(line)
     passed = sum(good for _, good in results)

@@ -1,4 +1,5 @@
 // Whether two engines are the same, every field of every row.
+use choice::both;
 use engine::Engine;
 use engine::Timer;
 use parts::Thread;
@@ -10,19 +11,9 @@ use scheduler::Scheduler;
 use wheel::Wheel;
 ghost use mathlib.Core.Path.{_≡_};
 ghost use mathlib.Core.Logic.{_↔_};
-ghost use mathlib.Core.Bool.{true, _&&_};
+ghost use mathlib.Core.Bool.{true};
 ghost use lib.Dec.{eqb};
 ghost use Rattle.alike.specs.Tests.{sameList, sameFlag, sameQueue, sameQueues, sameThread, sameMutex, sameTimer, sameThreads, sameScheduler, sameWheel, sameCounts};
-
-// Both tests hold.
-fn both(one: bool, other: bool) -> bool
-    ensures { λ r. ⌜ r ≡ (one && other) ⌝ }
-{
-    if one {
-        return other;
-    }
-    false
-}
 
 // The two flags are the same.
 fn same_flag(one: bool, other: bool) -> bool

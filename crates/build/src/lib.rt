@@ -1,5 +1,7 @@
 // The engine that a page describes: its rows up to the counts, blank rows past them, each thread in its queue in the order of the places, and
 // each timer on its spoke.
+use choice::larger;
+use choice::smaller;
 use engine::Engine;
 use engine::Timer;
 use page::Page;
@@ -14,7 +16,7 @@ use scheduler::Scheduler;
 use scheduler::highest_ceiling;
 use units::Ticks;
 use wheel::Wheel;
-ghost use Prim.Native.Nat.{min, max};
+ghost use Prim.Native.Nat.{min};
 ghost use mathlib.Core.Path.{_≡_};
 ghost use mathlib.Core.Bool.{true};
 ghost use Rattle.wheel.specs.Hung.{empty};
@@ -23,26 +25,6 @@ ghost use Rattle.rules.specs.Page.{pageFormed, pageSound, describedBy};
 ghost use Rattle.engine.specs.Stands.{engineOf};
 ghost use Rattle.page.specs.Says.{said};
 ghost use Rattle.build.specs.Models.{mutexRows, tieRows, runningRow, threadRows, timerRows, hungBelow, runnerIn, blankScheduler, arrivedOne, arrivedBelow, arrivedPlaces, buildModel};
-
-// The smaller of two.
-fn smaller(a: u8, b: u8) -> u8
-    ensures { λ r. ⌜ r ≡ min a b ⌝ }
-{
-    if a < b {
-        return a;
-    }
-    b
-}
-
-// The larger of two.
-fn larger(a: u8, b: u8) -> u8
-    ensures { λ r. ⌜ r ≡ max a b ⌝ }
-{
-    if a < b {
-        return b;
-    }
-    a
-}
 
 // The rows of n mutexes.
 fn mutex_rows(rows: [Mutex; 16], n: u8) -> [Mutex; 16]

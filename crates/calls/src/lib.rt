@@ -1,7 +1,8 @@
 // The thirteen calls, a row of 8 bytes taken apart into its call, and the answers with document 01's numbers.
+use choice::both;
 use units::Micros;
 ghost use mathlib.Core.Path.{_≡_};
-ghost use mathlib.Core.Bool.{_&&_, _||_};
+ghost use mathlib.Core.Bool.{_||_};
 ghost use Prim.Native.Nat.{_<_};
 ghost use lib.Dec.{eqb};
 ghost use Rattle.calls.specs.Answers.{numberOf};
@@ -136,16 +137,6 @@ fn fits(named: Named, row: [u8; 8]) -> bool
     let kind = named_or_zero(named.kind, wide(row[3]));
     let v = named_or_zero(named.v, number_of_row(row));
     both(both(both(both(a, b), kind), row[3] <= 1), v)
-}
-
-// Whether both are true.
-fn both(x: bool, y: bool) -> bool
-    ensures { λ r. ⌜ r ≡ (x && y) ⌝ }
-{
-    if x {
-        return y;
-    }
-    false
 }
 
 // The call, if the fields that it does not name are 0.

@@ -19,6 +19,7 @@ use Rattle.rules.specs.Page.{runnerFrom, rowsOf, threadOf, timerOf, threadRow, 
 use Rattle.pages.proofs.Rows.{thread-of}
 use Rattle.page.specs.declared.Page.{Page}
 use Rattle.page.specs.Says.{threadSaid, mutexSaid, timerSaid, noThreadRow, noMutexRow, noTimerRow, said}
+use Rattle.scheduler.specs.Models.{ceilingFor}
 use Rattle.standing.specs.Models.{rowAt, mutexAt, priorityAt, standsOf, ceilingIn, prioritiesIn, freeIn, threadsIn, topIn}
 use Rattle.objects.specs.Models.{tieAt}
 use Rattle.checks.specs.Models.{timerAt}
@@ -155,7 +156,7 @@ module _ (p : Page) where
 
   -- the largest ceiling that a thread owns
   highest-told : (t : ℕ) → highestCeiling (rowsTold .mutexes) t ≡ ceilingIn (p .mutexrows) (p .mutexes) t
-  unfolding ceilingIn
+  unfolding ceilingIn ceilingFor
   highest-told t = ap (λ l. highestCeiling l t) mutexes-told ∙ ceiling-highest (p .mutexes) _ t
 
   -- the priority of a thread

@@ -1,5 +1,6 @@
 // Whether a page is sound: the counts of its tables, its timers, and the tests of all tables together.
 // An id is taken modulo the size of its table, so that every function is total; the limits are tested first.
+use choice::both;
 use objects::conditions_fit;
 use objects::mutexes_fit;
 use page::Page;
@@ -8,7 +9,6 @@ use places::idle_fits;
 use places::runner_fits;
 use places::threads_fit;
 use standing::Known;
-use standing::both;
 use standing::implied;
 use standing::priorities_of;
 use standing::runner_of;

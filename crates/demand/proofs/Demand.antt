@@ -16,17 +16,16 @@ use Rattle.calls.specs.Answers.{numberOf}
 use Rattle.calls.specs.Rows.{decoded}
 use Rattle.rules.specs.State.{State, boot}
 use Rattle.rules.specs.Sound.{sound}
-use Rattle.rules.specs.Step.{stepDecoded, stepRow}
+use Rattle.rules.specs.Step.{stepRow}
 use Rattle.soundness.proofs.Kept.{row-keeps, boot-is-sound}
 use Rattle.book.specs.Book.{Book}
 use Rattle.book.specs.Shown.{bookBoot, enter}
 use Rattle.book.specs.Answers.{answersOf, finalOf}
 use Rattle.saved.specs.Record.{pageIn}
-use Rattle.saved.specs.Loading.{load, save, saved}
+use Rattle.saved.specs.Loading.{load, saved}
 use Rattle.saved.proofs.Loading.{loaded-is-sound, save-done}
 use Rattle.saved.specs.Demand.{EqualBytes}
 use Rattle.saved.proofs.Demand.{demand-3-records, demand-3-records-from-boot}
-use Rattle.engine.specs.declared.Engine.{Engine}
 use Rattle.engine.specs.Models.{stepModel}
 use Rattle.engine.specs.Stands as engine
 use Rattle.engine.specs.Stands.{engineOf}

@@ -1,59 +1,48 @@
 -- Each call but the tick, on the engine that describes a sound state, gives the engine and the answer of document 01's step.
 -- Assumes nothing.
-use Prim.Native.Nat.{ℕ, zero, suc, _+_, _%_, _<_, _≤_}
-use mathlib.Core.Path.{_≡_, refl, sym, ap, ap₂, _∙_, subst}
+use Prim.Native.Nat.{ℕ, suc, _+_, _%_, _<_, _≤_}
+use mathlib.Core.Path.{_≡_, refl, sym, ap, _∙_}
 use mathlib.Core.Logic.{_≢_}
-use mathlib.Core.Bool.{Bool, true, false, cond, not, _||_, _&&_, false≢true}
-use mathlib.Core.List.{List, [], _∷_, _++_}
+use mathlib.Core.Bool.{Bool, true, false, not, _&&_, false≢true}
+use mathlib.Core.List.{[], _∷_, _++_}
 use native.Mathlib.Omega.{arith}
-use lib.ListN.{length, getD, set, length-set, List·getD-eq-default}
-use lib.Seq.{getD-set-same, getD-set-other}
+use lib.ListN.{length, List·getD-eq-default}
 use lib.Dec.{eqb, ltb, leb}
-use borrow.Author.Tests.{eqb-true, eqb-false, eq-eqb, ne-eqb, lt-ltb, ltb-false, leb-false, not-false}
-use Rattle.laws.specs.Bools.{by-cases, nor-left, nor-right, and-both, cond-true, cond-false}
-use Rattle.laws.specs.Lists.{tabulate, getD-tabulate, length-tabulate, tabulate-same, set-tabulate}
-use Rattle.units.specs.declared.Micros.{Micros}
-use Rattle.units.specs.Units.{ticksIn, outside}
+use borrow.Author.Tests.{eqb-true, eqb-false, eq-eqb, ltb-false, leb-false, not-false}
+use Rattle.laws.specs.Bools.{by-cases, nor-left, nor-right}
+use Rattle.laws.specs.Lists.{tabulate}
+use Rattle.units.specs.Units.{outside}
 use Rattle.calls.specs.declared.Call.{Call}
-use Rattle.calls.specs.declared.Call.the-variants.{Start, CreateThread, CreateMutex, CreateCondition, CreateTimer, Acquire, Release, Wait, Signal, Broadcast, StartTimer, StopTimer}
-use Rattle.calls.specs.declared.Kind.{Kind}
-use Rattle.calls.specs.declared.Kind.the-variants.{OneShot, Periodic}
+use Rattle.calls.specs.declared.Call.the-variants.{Start, CreateThread, CreateMutex, CreateCondition, CreateTimer, Acquire, Release, Wait, Signal, Broadcast}
 use Rattle.calls.specs.Answers.{numberOf}
 use Rattle.scheduler.specs.declared.Scheduler as scheduled
 use Rattle.scheduler.specs.Models.{Signalled}
 use Rattle.scheduler.specs.Models as scheduler
-use Rattle.wheel.specs.declared.Wheel.{Wheel}
 use Rattle.wheel.specs.Hung as hung
-use Rattle.wheel.specs.Hung.{Hung, Good, left, withLeft}
+use Rattle.wheel.specs.Hung.{left}
 use Rattle.wheel.specs.Wheels.{wheelOf}
-use Rattle.wheel.specs.Inside.{startedIn, stoppedIn}
-use Rattle.wheel.proofs.Hanging.{start-hangs, stop-hangs}
-use Rattle.rules.specs.State.{TimerState, stopped, oneShot, periodic, Timer, Rows, Scheduler, State, stoppedTimer, mutex, timer, priority, withRows, withStarted, ready, stand, arrive}
+use Rattle.rules.specs.State.{Rows, Scheduler, State, stoppedTimer, mutex, timer, priority, withRows, withStarted, ready, stand, arrive}
 use Rattle.rules.specs.Next.{runFirst}
 use Rattle.rules.specs.Effects as rules
-use Rattle.rules.specs.Effects.{threadCreated, mutexCreated, conditionCreated, acquired, released, waited, signalled, signalledTimes, leavers, stateOf, goes, effect, given}
+use Rattle.rules.specs.Effects.{threadCreated, mutexCreated, conditionCreated, acquired, released, waited, signalled, signalledTimes, effect, given}
 use Rattle.rules.specs.Refusals.{tests, verdictOf}
-use Rattle.rules.specs.Sound.{timerSound, timersSound}
 use Rattle.rules.specs.Page.{timerCode}
 use Rattle.rules.specs.Step.{stepSound}
 use Rattle.soundness.proofs.Facts.{Sound}
 use Rattle.soundness.proofs.Next.{Kept, Turned}
-use Rattle.soundness.proofs.Calls.{Going}
 use Rattle.soundness.proofs.Rows.{length-stand}
 use Rattle.soundness.proofs.Creating.{getD-more, length-more, withThread}
-use Rattle.soundness.proofs.Keeping.{Clear, passed, kept, going, Effect, effected}
+use Rattle.soundness.proofs.Keeping.{passed, kept, going, effected}
 use Rattle.meaning.specs.Stands.{threadsOf, schedulerOf}
-use Rattle.meaning.proofs.Rows.{small-32, small-16}
 use Rattle.meaning.proofs.Calls.{acquire-stands, release-stands, wait-stands-8}
 use Rattle.meaning.proofs.Signals.{signal-stands, broadcast-stands, run-stands}
 use Rattle.meaning.proofs.Creating.{create-stands, create-mutex-stands, create-condition-stands}
 use Rattle.meaning.proofs.Sizes.{Sizes, sizes-first, sizes-acquired, sizes-released, sizes-waited, sizes-signalled, sizes-times}
 use Rattle.engine.specs.declared.Timer as engine
-use Rattle.engine.specs.declared.Engine.{Engine}
-use Rattle.engine.specs.Models.{kindCode, lengthCode, stoppedRow, withScheduler, withTimer, judged, startModel, createThreadModel, createMutexModel, createConditionModel, createTimerModel, acquireModel, releaseModel, waitModel, signalModel, broadcastModel, startTimerModel, stopTimerModel}
+use Rattle.engine.specs.Models.{withScheduler, startModel, createThreadModel, createMutexModel, createConditionModel, createTimerModel, acquireModel, releaseModel, waitModel, signalModel, broadcastModel}
 use Rattle.engine.specs.Stands.{timerIn, hungOf, engineOf, steppedOf}
 use Rattle.engine.proofs.Answers.{scheduler-stands, judged-stands}
-use Rattle.engine.proofs.Verdicts.{start-verdict, thread-verdict, mutex-verdict, condition-verdict, timer-verdict, acquire-verdict, release-verdict, wait-verdict, signal-verdict, broadcast-verdict, start-timer-verdict, stop-timer-verdict}
+use Rattle.engine.proofs.Verdicts.{start-verdict, thread-verdict, mutex-verdict, condition-verdict, timer-verdict, acquire-verdict, release-verdict, wait-verdict, signal-verdict, broadcast-verdict}
 
 module _ {s : State} (o : Sound s) where
   abbrev k : Rows

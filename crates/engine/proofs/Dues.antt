@@ -7,9 +7,9 @@ use mathlib.Core.List.{List, [], _∷_, _++_, map}
 use native.Mathlib.Omega.{arith}
 use native.Mathlib.Nat.{not-suc-le-zero, le-of-suc-le-suc}
 use lib.ListN.{length, length-map}
-use lib.Dec.{eqb, eqb·zero-suc, eqb·suc-suc}
+use lib.Dec.{eqb·zero-suc, eqb·suc-suc}
 use Rattle.laws.specs.Bits.{put, among, has}
-use Rattle.rules.specs.State.{Timer, stoppedTimer, timer}
+use Rattle.rules.specs.State.{Timer, timer}
 use Rattle.rules.specs.Effects.{isDue, dueConditions}
 
 -- ids below k that pass a test, each once

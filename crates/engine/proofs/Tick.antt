@@ -4,15 +4,15 @@
 use Prim.Native.Nat.{ℕ, zero, suc, _+_, _-_, _%_, _<_, _≤_}
 use mathlib.Core.Path.{_≡_, refl, sym, ap, ap₂, _∙_, subst}
 use mathlib.Core.Logic.{_≢_}
-use mathlib.Core.Bool.{Bool, true, false, cond, not, _||_, _&&_, false≢true, true≢false}
+use mathlib.Core.Bool.{Bool, true, false, cond, not, _||_, _&&_, false≢true}
 use mathlib.Core.List.{List, [], _∷_, map}
 use native.Mathlib.Omega.{arith}
 use native.Mathlib.Nat.{not-suc-le-zero, le-of-suc-le-suc}
 use lib.ListN.{length, getD, set, length-map, List·getD-map, List·getD-eq-default}
 use lib.Seq.{ext-getD}
 use lib.Dec.{eqb, ltb, leb}
-use borrow.Author.Tests.{eqb-true, eqb-false, eq-eqb, ne-eqb, lt-leb, lt-ltb, not-false}
-use Rattle.laws.specs.Bools.{by-cases, no-way, self, and-left, and-right, and-both, cond-true, cond-false}
+use borrow.Author.Tests.{eqb-true, eqb-false, eq-eqb, ne-eqb, lt-leb, lt-ltb}
+use Rattle.laws.specs.Bools.{by-cases, self, and-left, and-right, and-both, cond-true, cond-false}
 use Rattle.laws.specs.Bits.{among, has, has-among, among-same}
 use Rattle.laws.specs.Lists.{by-below, tabulate, getD-tabulate, length-tabulate, set-tabulate, tabulate-below}
 use Rattle.calls.specs.declared.Call.the-variants.{Tick}
@@ -23,7 +23,7 @@ use Rattle.scheduler.specs.Models as scheduler
 use Rattle.wheel.specs.declared.Ticked.{Ticked}
 use Rattle.wheel.specs.Hung as hung
 use Rattle.wheel.specs.Hung.{Hung, Good, left, withLeft, due}
-use Rattle.wheel.specs.Wheels.{wheelOf, idsOf, dueOf, tickedOf}
+use Rattle.wheel.specs.Wheels.{wheelOf, idsOf, tickedOf}
 use Rattle.wheel.specs.Inside.{startedIn, tickedIn}
 use Rattle.wheel.proofs.Hanging.{start-hangs}
 use Rattle.wheel.proofs.Ticking.{tick-hangs, left-ticked}
@@ -35,14 +35,14 @@ use Rattle.rules.specs.Sound.{timerSound, timersSound}
 use Rattle.rules.specs.Page.{timerCode}
 use Rattle.rules.specs.Step.{after, runner, accepted, refused, stepSound}
 use Rattle.soundness.proofs.Facts.{Sound}
-use Rattle.soundness.proofs.Next.{Kept, Turned}
-use Rattle.soundness.proofs.Calls.{Going, Left, left-signalled}
-use Rattle.soundness.proofs.Keeping.{passed, kept, going}
-use Rattle.soundness.proofs.Timers.{Goes, going-timer, timers-ticked}
+use Rattle.soundness.proofs.Next.{Kept}
+use Rattle.soundness.proofs.Calls.{Going, left-signalled}
+use Rattle.soundness.proofs.Keeping.{kept, going}
+use Rattle.soundness.proofs.Timers.{going-timer, timers-ticked}
 use Rattle.meaning.specs.Stands.{schedulerOf}
 use Rattle.meaning.proofs.Rows.{small-32}
 use Rattle.meaning.proofs.Signals.{signal-stands}
-use Rattle.meaning.proofs.Sizes.{Sizes, sizes-each}
+use Rattle.meaning.proofs.Sizes.{sizes-each}
 use Rattle.engine.specs.declared.Timer as engine
 use Rattle.engine.specs.declared.Engine.{Engine}
 use Rattle.engine.specs.Models as served

@@ -1,17 +1,16 @@
 -- The calls that start and stop a timer, on the engine that describes a sound state, give the engine and the answer of document 01's step.
 -- Assumes nothing.
-use Prim.Native.Nat.{ℕ, zero, suc, _+_, _%_, _<_, _≤_}
-use mathlib.Core.Path.{_≡_, refl, sym, ap, ap₂, _∙_, subst}
+use Prim.Native.Nat.{ℕ, zero, suc, _%_, _<_, _≤_}
+use mathlib.Core.Path.{_≡_, refl, sym, ap, ap₂, _∙_}
 use mathlib.Core.Logic.{_≢_}
-use mathlib.Core.Bool.{Bool, true, false, cond, not, _||_, _&&_, false≢true, true≢false}
+use mathlib.Core.Bool.{Bool, true, false, _&&_}
 use mathlib.Core.List.{List, [], _∷_}
 use native.Mathlib.Omega.{arith}
-use native.Mathlib.Nat.{le-trans, not-suc-le-zero, le-of-suc-le-suc}
-use lib.ListN.{length, getD, set, length-set, List·getD-eq-default}
+use lib.ListN.{length, set, length-set, List·getD-eq-default}
 use lib.Seq.{getD-set-same, getD-set-other}
 use lib.Dec.{eqb, ltb, leb}
-use borrow.Author.Tests.{eqb-true, eqb-false, eq-eqb, ne-eqb, lt-ltb, ltb-true, ltb-false, leb-false, not-false}
-use Rattle.laws.specs.Bools.{by-cases, no-way, nor-left, nor-right, and-left, and-right, and-both, cond-true, cond-false}
+use borrow.Author.Tests.{eqb-true, eq-eqb, lt-ltb, ltb-false, leb-false}
+use Rattle.laws.specs.Bools.{nor-left, and-left, and-right, and-both, cond-true, cond-false}
 use Rattle.laws.specs.Lists.{by-below, tabulate, getD-tabulate, length-tabulate, set-tabulate}
 use Rattle.units.specs.declared.Micros.{Micros}
 use Rattle.units.specs.Units.{ticksIn, outside}
@@ -20,11 +19,11 @@ use Rattle.calls.specs.declared.Kind.{Kind}
 use Rattle.calls.specs.declared.Kind.the-variants.{OneShot, Periodic}
 use Rattle.calls.specs.Answers.{numberOf}
 use Rattle.wheel.specs.Hung as hung
-use Rattle.wheel.specs.Hung.{Hung, Good, left, withLeft}
+use Rattle.wheel.specs.Hung.{Good, left, withLeft}
 use Rattle.wheel.specs.Wheels.{wheelOf}
 use Rattle.wheel.specs.Inside.{startedIn, stoppedIn}
 use Rattle.wheel.proofs.Hanging.{start-hangs, stop-hangs}
-use Rattle.rules.specs.State.{TimerState, stopped, oneShot, periodic, Timer, Rows, State, stoppedTimer, timer}
+use Rattle.rules.specs.State.{stopped, Timer, Rows, State, stoppedTimer, timer}
 use Rattle.rules.specs.Effects.{stateOf, goes, effect, given}
 use Rattle.rules.specs.Refusals.{tests, verdictOf}
 use Rattle.rules.specs.Sound.{timerSound, timersSound}
@@ -32,10 +31,9 @@ use Rattle.rules.specs.Page.{timerCode}
 use Rattle.rules.specs.Step.{stepSound}
 use Rattle.soundness.proofs.Facts.{Sound}
 use Rattle.soundness.proofs.Keeping.{passed}
-use Rattle.soundness.proofs.Timers.{Goes, going-timer}
+use Rattle.soundness.proofs.Timers.{going-timer}
 use Rattle.meaning.proofs.Rows.{small-32}
 use Rattle.engine.specs.declared.Timer as engine
-use Rattle.engine.specs.declared.Engine.{Engine}
 use Rattle.engine.specs.Models.{kindCode, lengthCode, stoppedRow, withTimer, startTimerModel, stopTimerModel}
 use Rattle.engine.specs.Stands.{timerIn, hungOf, engineOf, steppedOf}
 use Rattle.engine.proofs.Answers.{judged-stands}

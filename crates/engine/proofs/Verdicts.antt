@@ -10,26 +10,26 @@ use native.Mathlib.Nat.{le-of-suc-le-suc, not-suc-le-zero}
 use lib.ListN.{length, getD}
 use lib.Dec.{eqb, ltb, leb}
 use borrow.Author.Tests.{ne-eqb, leb-false, not-false}
-use Rattle.laws.specs.Bools.{by-cases, nor-left, nor-right}
+use Rattle.laws.specs.Bools.{nor-left, nor-right}
 use Rattle.laws.specs.Lists.{tabulate, getD-tabulate}
 use Rattle.units.specs.declared.Micros.{Micros}
 use Rattle.units.specs.Units.{ticksIn, outside}
 use Rattle.calls.specs.declared.Call.the-variants.{Start, CreateThread, CreateMutex, CreateCondition, CreateTimer, Acquire, Release, Wait, Signal, Broadcast, StartTimer, StopTimer}
 use Rattle.calls.specs.declared.Kind.{Kind}
 use Rattle.calls.specs.declared.Verdict.{Verdict}
-use Rattle.calls.specs.declared.Verdict.the-variants.{Done, Stopped, NoSuchId, IdleCaller, OutOfRange, AboveCeiling, NotOwner, CountFull, HoldingMore, TiedElsewhere, TimerRunning, TimerStopped}
+use Rattle.calls.specs.declared.Verdict.the-variants.{Stopped, NoSuchId, IdleCaller, OutOfRange, AboveCeiling, NotOwner, CountFull, HoldingMore, TiedElsewhere, TimerRunning, TimerStopped}
 use Rattle.calls.specs.Answers.{numberOf}
 use Rattle.parts.specs.declared.Thread as parts
 use Rattle.scheduler.specs.declared.Mutex as scheduler
 use Rattle.scheduler.specs.Models as models
 use Rattle.scheduler.specs.Models.{mutexOf, rowModel}
 use Rattle.verdicts.specs.Models.{createdVerdict, roomVerdict, startVerdict, acquireVerdict, releaseVerdict, heldVerdict, idsVerdict, idVerdict, delayVerdict, stopVerdict, firstOf, ownedOne, ownedIn}
-use Rattle.rules.specs.State.{TimerState, stopped, oneShot, periodic, Mutex, Timer, Rows, State, noMutex, mutex, tied, timer, priority, owned}
+use Rattle.rules.specs.State.{TimerState, stopped, oneShot, periodic, Mutex, Rows, State, noMutex, tied, timer, priority, owned}
 use Rattle.rules.specs.Effects.{goes}
 use Rattle.rules.specs.Refusals.{Test, _⇒_, verdict, tests, verdictOf}
 use Rattle.rules.specs.Page.{timerCode}
-use Rattle.soundness.proofs.Facts.{Facts, Sound}
-use Rattle.meaning.specs.Stands.{threadIn, threadsOf, mutexIn, schedulerOf}
+use Rattle.soundness.proofs.Facts.{Sound}
+use Rattle.meaning.specs.Stands.{threadsOf, mutexIn, schedulerOf}
 use Rattle.meaning.proofs.Rows.{small-32, row-read}
 use Rattle.meaning.proofs.Owning.{mutex-read}
 use Rattle.meaning.proofs.Sets.{tie-read}

@@ -1,6 +1,5 @@
 -- What the code makes of a sound kernel and of one that is not meets the promise of a step; and that promise allows one result only.
 -- Assumes nothing.
-use Prim.Native.Nat.{ℕ}
 use mathlib.Core.Path.{_≡_, refl, sym, ap, _∙_}
 use mathlib.Core.Logic.{_⊎_, inl, inr, _↔_}
 use mathlib.Core.Bool.{Bool, true, false, true≢false}
@@ -13,7 +12,6 @@ use Rattle.calls.specs.Answers.{numberOf}
 use Rattle.rules.specs.State.{State}
 use Rattle.rules.specs.Sound.{sound}
 use Rattle.rules.specs.Step.{step, stepDecoded}
-use Rattle.engine.specs.declared.Engine.{Engine}
 use Rattle.engine.specs.declared.Stepped as engine
 use Rattle.engine.specs.Stands as stands
 use Rattle.engine.specs.Stands.{engineOf}
@@ -23,7 +21,7 @@ use Rattle.describe.specs.Models.{describeModel}
 use Rattle.build.specs.Models.{buildModel}
 use Rattle.kernel.specs.declared.Kernel.{Kernel}
 use Rattle.kernel.specs.declared.Stepped.{Stepped}
-use Rattle.kernel.specs.Kernels.{kernelOf, SoundKernel, refusal, unsoundVerdict, Steps}
+use Rattle.kernel.specs.Kernels.{SoundKernel, refusal, unsoundVerdict, Steps}
 use Rattle.kernel.proofs.Sound.{pagePasses, page-fails, engine-decides, state-sound, sound-state}
 
 -- ---- the two ways of a call

@@ -1,16 +1,15 @@
 -- The test decides soundness: the page that describes the kernel is sound and the engine built from it is the kernel's own, exactly if some sound
 -- page describes the kernel and all it keeps besides follows from that page. And both round trips between sound pages and kernels.
 -- Assumes nothing.
-use Prim.Native.Nat.{ℕ, _≤_}
-use mathlib.Core.Path.{_≡_, refl, sym, ap, _∙_, subst}
+use Prim.Native.Nat.{_≤_}
+use mathlib.Core.Path.{_≡_, sym, ap, _∙_, subst}
 use mathlib.Core.Logic.{_↔_}
 use mathlib.Core.Bool.{Bool, true, false, _&&_, true≢false}
-use lib.ListN.{length, length-map}
+use lib.ListN.{length-map}
 use Rattle.laws.specs.Bools.{and-left, and-right, and-both}
 use Rattle.rules.specs.State.{State}
 use Rattle.rules.specs.Sound.{sound}
 use Rattle.rules.specs.Page.{Page, threadOf, timerOf, rowsOf, describedBy, pageFormed, pageSound, pageOf}
-use Rattle.soundness.proofs.Facts.{Sound}
 use Rattle.soundness.proofs.Tested.{sound-facts}
 use Rattle.pages.proofs.Pages.{page-of-sound, described-is-sound}
 use Rattle.engine.specs.declared.Engine.{Engine}

@@ -1,19 +1,16 @@
 -- What the scheduler's functions do to the value that describes a scheduler is what document 01's calls do: mutexes.
 -- Assumes nothing.
-use Prim.Native.Nat.{ℕ, zero, suc, _+_, _-_, _%_, _<_, _≤_}
-use mathlib.Core.Path.{_≡_, refl, sym, ap, ap₂, _∙_, subst}
-use mathlib.Core.Bool.{Bool, true, false, cond}
+use Prim.Native.Nat.{ℕ, _+_, _-_, _%_, _<_, _≤_}
+use mathlib.Core.Path.{_≡_, refl, ap, _∙_, subst}
+use mathlib.Core.Bool.{true, cond}
 use native.Mathlib.Omega.{arith}
 use native.Mathlib.Nat.{le-trans}
-use lib.ListN.{length, getD, set}
+use lib.ListN.{length, set}
 use lib.Dec.{eqb, ltb, leb}
-use borrow.Author.Tests.{lt-leb, eqb-true, eqb-false}
+use borrow.Author.Tests.{lt-leb, eqb-true}
 use Rattle.laws.specs.Bools.{by-cases}
 use Rattle.laws.specs.Lists.{tabulate}
-use Rattle.queue.specs.declared.Queues.{Queues}
 use Rattle.queue.specs.Stands.{queuesOf}
-use Rattle.parts.specs.declared.Threads.{Threads}
-use Rattle.parts.specs.declared.Head.{Head}
 use Rattle.parts.specs.declared.Waiting.{Waiting}
 use Rattle.parts.specs.Models as parts
 use Rattle.parts.specs.Models.{headModel, leaveModelIn}
@@ -22,21 +19,21 @@ use Rattle.scheduler.specs.declared.Scheduler as scheduled
 use Rattle.scheduler.specs.Models as models
 use Rattle.scheduler.specs.Models.{mutexOf, withForMutex, withOnCondition, forMutexOf, onConditionOf, ownModel, recountModel, waitForModel, waitOnModel, readyModel, passToModel, passModel, acquireModel, releaseModel, waitModel}
 use Rattle.rules.specs.Queues.{First, nobody, somebody, toBack, firstLeaves}
-use Rattle.rules.specs.State.{Where, running, ready, forMutex, onCondition, waits, Rows, Sets, Scheduler, thread, mutex, tied, priority, withRows, stand, own, tie, setAt, putSet, firstAt, arrive, depart}
+use Rattle.rules.specs.State.{Where, running, ready, forMutex, onCondition, waits, Scheduler, thread, mutex, tied, priority, withRows, stand, own, tie, setAt, putSet, firstAt, arrive, depart}
 use Rattle.rules.specs.Page.{stateCode, objectCode}
 use Rattle.rules.specs.Effects.{acquired, passedTo, released, waited}
 use Rattle.soundness.proofs.Fits.{first-queue}
-use Rattle.soundness.proofs.Rows.{Real, length-tie, base-below}
-use Rattle.soundness.proofs.Facts.{Facts, Queued, low}
+use Rattle.soundness.proofs.Rows.{length-tie, base-below}
+use Rattle.soundness.proofs.Facts.{Queued, low}
 use Rattle.soundness.proofs.Moves.{first-stands, first-exists, first-at, queued-leave, queued-tie}
-use Rattle.soundness.proofs.Next.{Kept, Turned}
+use Rattle.soundness.proofs.Next.{Kept}
 use Rattle.soundness.proofs.Calls.{Going, Left, left-released, aside-taken, low-taken}
 use Rattle.meaning.specs.Stands.{threadsOf, mutexIn, schedulerOf}
 use Rattle.meaning.proofs.Fresh.{has-set}
 use Rattle.meaning.proofs.Joining.{headOf, head-stands}
 use Rattle.meaning.proofs.Threads.{arrive-stands, wait-stands, leave-stands, stand-same}
 use Rattle.meaning.proofs.Owning.{mutex-read, own-stands, recount-stands}
-use Rattle.meaning.proofs.Sets.{set-read, set-put, mutexes-apart, conditions-apart, tie-read, tie-put}
+use Rattle.meaning.proofs.Sets.{set-read, set-put, mutexes-apart, conditions-apart, tie-put}
 
 -- ---- arriving, for a thread that has left its queue
 

@@ -1,32 +1,29 @@
 -- What the scheduler's functions do to the value that describes a scheduler is what document 01's calls do: a new thread, mutex or condition variable.
 -- Assumes nothing.
-use Prim.Native.Nat.{ℕ, zero, suc, _+_, _%_, _<_, _≤_, max}
-use mathlib.Core.Path.{_≡_, refl, sym, ap, ap₂, _∙_, subst}
+use Prim.Native.Nat.{ℕ, _+_, _%_, _<_, _≤_}
+use mathlib.Core.Path.{_≡_, refl, sym, ap, ap₂, _∙_}
 use mathlib.Core.Logic.{_≢_}
-use mathlib.Core.Bool.{Bool, true, false, cond}
 use mathlib.Core.List.{List, [], _∷_, _++_, flatten, append-assoc, append-nil}
 use native.Mathlib.Omega.{arith}
 use lib.ListN.{length, set, List·getD-eq-default}
 use lib.Dec.{eqb}
-use borrow.Author.Tests.{eqb-true, ne-eqb}
+use borrow.Author.Tests.{eqb-true}
 use Rattle.laws.specs.Bools.{by-cases, self}
 use Rattle.laws.specs.Lists.{tabulate, tabulate-same, set-tabulate, tabulate-below}
-use Rattle.queue.specs.declared.Links.{Links}
 use Rattle.queue.specs.Stands.{after, linkOf, linksOf, queuesOf}
 use Rattle.parts.specs.declared.Thread as parts
-use Rattle.parts.specs.declared.Threads.{Threads}
 use Rattle.parts.specs.Models.{withRow}
 use Rattle.scheduler.specs.declared.Mutex as scheduler
 use Rattle.scheduler.specs.Models as models
 use Rattle.scheduler.specs.Models.{readyModel, createModel, createMutexModel}
 use Rattle.rules.specs.Queues.{QueueSet, emptySet}
-use Rattle.rules.specs.State.{running, ready, forMutex, onCondition, Thread, Mutex, Rows, Sets, Scheduler, thread, mutex, tied, highestCeiling, priority, withRows, stand, setAt, arrive}
+use Rattle.rules.specs.State.{running, ready, forMutex, onCondition, Thread, Mutex, Rows, Scheduler, thread, mutex, tied, priority, withRows, setAt}
 use Rattle.rules.specs.Page.{stateCode, objectCode}
 use Rattle.rules.specs.Effects.{threadCreated, mutexCreated, conditionCreated}
 use Rattle.soundness.proofs.Rows.{priority-base}
-use Rattle.soundness.proofs.Facts.{Facts, Queued, low}
+use Rattle.soundness.proofs.Facts.{low}
 use Rattle.soundness.proofs.Next.{Kept}
-use Rattle.soundness.proofs.Creating.{getD-more, length-more, withThread, withMutex, withCondition, facts-thread, new-exists, aside-thread, thread-more, old-thread, old-priority, mutex-more, old-mutex, same-priority, same-tied}
+use Rattle.soundness.proofs.Creating.{getD-more, withThread, withMutex, facts-thread, new-exists, aside-thread, thread-more, old-thread, old-priority, mutex-more, old-mutex, same-priority, same-tied}
 use Rattle.meaning.specs.Stands.{allSets, threadIn, threadsOf, mutexIn, schedulerOf}
 use Rattle.meaning.proofs.Rows.{small-32, small-16}
 use Rattle.meaning.proofs.Calls.{ready-stands}

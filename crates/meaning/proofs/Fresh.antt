@@ -1,23 +1,22 @@
 -- From soundness: every set has 16 queues, each thread stands in at most one queue of all, and one who stands nowhere is in none.
 -- Assumes nothing.
-use Prim.Native.Nat.{ℕ, zero, suc, _+_, _-_, _<_, _≤_}
+use Prim.Native.Nat.{ℕ, zero, suc, _-_, _<_, _≤_}
 use mathlib.Core.Path.{_≡_, refl, sym, ap, _∙_, subst}
-use mathlib.Core.Bool.{Bool, true, false, cond, _&&_, _||_, false≢true}
-use mathlib.Core.List.{List, [], _∷_, _++_, flatten}
+use mathlib.Core.Bool.{Bool, true}
+use mathlib.Core.List.{List, [], _∷_, flatten}
 use native.Mathlib.Omega.{arith}
-use lib.ListN.{length, getD, length-append, List·getD-eq-default}
-use lib.Dec.{eqb, ltb}
-use borrow.Author.Tests.{eqb-true, eqb-false, eq-eqb, ne-eqb, ltb-true, ltb-false}
-use Rattle.laws.specs.Bools.{by-cases, no-way, refuted, and-left, and-right, or-elim, or-left}
+use lib.ListN.{length, length-append, List·getD-eq-default}
+use lib.Dec.{eqb}
+use borrow.Author.Tests.{eq-eqb, ne-eqb}
+use Rattle.laws.specs.Bools.{no-way, or-left}
 use Rattle.laws.specs.Lists.{at, one, count, counts, one-same, one-other, counts-append, count-where, Wide, by-equal, by-below}
 use Rattle.queue.specs.Stands.{Fresh}
-use Rattle.rules.specs.Queues.{QueueSet, queue}
-use Rattle.rules.specs.State.{Where, running, ready, forMutex, onCondition, same, Rows, Sets, thread, at as standsAt, priority, setAt}
+use Rattle.rules.specs.Queues.{QueueSet}
+use Rattle.rules.specs.State.{Where, running, ready, forMutex, onCondition, Rows, Sets, thread, at as standsAt, setAt}
 use Rattle.rules.specs.Sound.{mem}
 use Rattle.soundness.proofs.Fits.{Ordered, Fits, here, here-prio}
 use Rattle.soundness.proofs.Rows.{Real, Has, not-running, standing-exists, same-true}
-use Rattle.soundness.proofs.Facts.{Apart, Facts, Queued}
-use Rattle.soundness.proofs.Tests.{mem-first}
+use Rattle.soundness.proofs.Facts.{Apart, Queued}
 use Rattle.meaning.specs.Stands.{allSets}
 use Rattle.meaning.proofs.Sides.{side, side-set}
 

@@ -2,17 +2,14 @@
 -- Assumes nothing.
 use Prim.Native.Nat.{ℕ, zero, suc, _+_, _<_, _≤_}
 use mathlib.Core.Path.{_≡_, refl, sym, ap, _∙_, subst}
-use mathlib.Core.Bool.{Bool, true, false, cond}
+use mathlib.Core.Bool.{cond}
 use mathlib.Core.List.{List, [], _∷_, _++_, tail, flatten}
 use native.Mathlib.Omega.{arith}
 use lib.ListN.{length, set, List·getD-eq-default}
-use lib.Dec.{eqb, ltb, leb}
-use borrow.Author.Tests.{lt-leb}
-use Rattle.laws.specs.Bools.{by-cases}
 use Rattle.laws.specs.Lists.{at, firstOr, rest, occupied, counts}
 use Rattle.queue.specs.declared.Linked.{Linked}
 use Rattle.queue.specs.Models.{backModel, frontModel, leaveModel, levelModel, withLevelModel, highestModel, highestBelow}
-use Rattle.queue.specs.Stands.{Fresh, endsOf, linksOf, linkedIn, queuesOf, highestList}
+use Rattle.queue.specs.Stands.{endsOf, linksOf, linkedIn, queuesOf, highestList}
 use Rattle.queue.proofs.Sets.{level-of, with-level-of, highest-of, fresh-part, back-in, front-in, leave-in}
 use Rattle.parts.specs.declared.Joined.{Joined}
 use Rattle.parts.specs.declared.Head.{Head}
@@ -20,7 +17,7 @@ use Rattle.parts.specs.Models.{joinModel, joinFrontModel, partModel, headModel}
 use Rattle.rules.specs.Queues as rules
 use Rattle.rules.specs.Queues.{QueueSet, queue, toBack, toFront, firstLeaves, First, nobody, somebody, firstBelow, first}
 use Rattle.rules.specs.State.{Where, running, Rows, Sets, thread, setAt, putSet}
-use Rattle.soundness.proofs.Rows.{Real, Has}
+use Rattle.soundness.proofs.Rows.{Real}
 use Rattle.soundness.proofs.Facts.{Queued}
 use Rattle.meaning.specs.Stands.{allSets}
 use Rattle.meaning.proofs.Sides.{side, side-set, side-below, side-put}

@@ -1,30 +1,29 @@
 -- A mutex that changes hands: its row, and the stored priorities of its old and its new owner, follow.
 -- Assumes nothing.
-use Prim.Native.Nat.{ℕ, zero, suc, _+_, _%_, _<_, _≤_, max}
-use mathlib.Core.Path.{_≡_, refl, sym, ap, ap₂, _∙_, subst}
+use Prim.Native.Nat.{ℕ, zero, suc, _%_, _<_, _≤_, max}
+use mathlib.Core.Path.{_≡_, refl, sym, ap, ap₂, _∙_}
 use mathlib.Core.Logic.{_≢_}
-use mathlib.Core.Bool.{Bool, true, false, cond}
+use mathlib.Core.Bool.{cond}
 use mathlib.Core.List.{List, [], _∷_}
 use native.Mathlib.Omega.{arith}
 use native.Mathlib.Nat.{le-of-suc-le-suc, not-suc-le-zero}
 use lib.ListN.{length, getD, set}
 use lib.Dec.{eqb, ltb}
-use borrow.Author.Tests.{eqb-true, eqb-false, eq-eqb, ne-eqb, lt-ltb, le-ltb, ltb-true, ltb-false}
+use borrow.Author.Tests.{eqb-true, eqb-false, ne-eqb, ltb-true, ltb-false}
 use Rattle.laws.specs.Bools.{by-cases, self}
 use Rattle.laws.specs.Lists.{tabulate, getD-tabulate, tabulate-below, set-tabulate}
 use Rattle.queue.specs.declared.Links.{Links}
 use Rattle.queue.specs.declared.Queues.{Queues}
 use Rattle.parts.specs.declared.Thread as parts
-use Rattle.parts.specs.declared.Threads.{Threads}
 use Rattle.parts.specs.Models.{blank, rowOf, liftModel}
 use Rattle.scheduler.specs.declared.Mutex as scheduler
 use Rattle.scheduler.specs.declared.Scheduler as scheduled
 use Rattle.scheduler.specs.Models as models
 use Rattle.scheduler.specs.Models.{ceilingFor, highestIn, settleModel, ownModel, recountModel}
-use Rattle.rules.specs.State.{Mutex, Rows, Scheduler, noMutex, thread, mutex, tied, highestCeiling, priority, withRows, own}
+use Rattle.rules.specs.State.{Mutex, Rows, Scheduler, noMutex, thread, mutex, highestCeiling, priority, withRows, own}
 use Rattle.rules.specs.Page.{stateCode, objectCode}
 use Rattle.soundness.proofs.Rows.{mutex-own, length-own, priority-own}
-use Rattle.meaning.specs.Stands.{threadIn, threadsOf, mutexIn, schedulerOf}
+use Rattle.meaning.specs.Stands.{threadsOf, mutexIn, schedulerOf}
 use Rattle.meaning.proofs.Rows.{small-32, small-16}
 
 -- ---- the search for the largest ceiling

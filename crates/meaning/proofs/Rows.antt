@@ -1,24 +1,20 @@
 -- What standing and owning do to the rows of the code: a stored row is the definition's row.
 -- Assumes nothing.
-use Prim.Native.Nat.{ℕ, zero, suc, _+_, _%_, _<_, _≤_, max}
-use mathlib.Core.Path.{_≡_, refl, sym, ap, ap₂, _∙_, subst}
+use Prim.Native.Nat.{ℕ, _%_, _<_, _≤_}
+use mathlib.Core.Path.{_≡_, sym, ap, ap₂, _∙_}
 use mathlib.Core.Logic.{_≢_}
-use mathlib.Core.Bool.{Bool, true, false, cond}
-use mathlib.Core.List.{List, [], _∷_}
 use native.Mathlib.Omega.{arith}
 use lib.ListN.{length, getD, set}
-use lib.Dec.{eqb, ltb}
-use borrow.Author.Tests.{eqb-true, eqb-false, eq-eqb, ne-eqb, lt-ltb, le-ltb}
-use Rattle.laws.specs.Bools.{by-cases, self}
-use Rattle.laws.specs.Lists.{tabulate, getD-tabulate, tabulate-same, set-tabulate}
+use borrow.Author.Tests.{ne-eqb}
+use Rattle.laws.specs.Bools.{self}
+use Rattle.laws.specs.Lists.{tabulate, getD-tabulate, set-tabulate}
 use Rattle.parts.specs.declared.Thread as parts
-use Rattle.parts.specs.declared.Threads.{Threads}
-use Rattle.parts.specs.Models.{blank, rowOf, standModel, liftModel}
+use Rattle.parts.specs.Models.{blank, standModel}
 use Rattle.queue.specs.declared.Links.{Links}
 use Rattle.queue.specs.declared.Queues.{Queues}
-use Rattle.rules.specs.State.{Where, Mutex, Rows, thread, mutex, highestCeiling, priority, stand, own}
+use Rattle.rules.specs.State.{Where, Rows, thread, priority, stand}
 use Rattle.rules.specs.Page.{stateCode, objectCode}
-use Rattle.soundness.proofs.Rows.{thread-stand, base-stand, stands-stand, priority-stand, priority-own}
+use Rattle.soundness.proofs.Rows.{base-stand, stands-stand, priority-stand}
 use Rattle.meaning.specs.Stands.{threadIn}
 
 -- a small number is its remainder

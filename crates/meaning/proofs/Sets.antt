@@ -1,20 +1,18 @@
 -- The tables of sets of queues: one set is read, and one is put, for mutexes and condition variables alike.
 -- Assumes nothing.
-use Prim.Native.Nat.{ℕ, zero, suc, _+_, _%_, _<_, _≤_}
-use mathlib.Core.Path.{_≡_, refl, sym, ap, ap₂, _∙_}
+use Prim.Native.Nat.{ℕ, _%_, _<_}
+use mathlib.Core.Path.{_≡_, sym, ap, ap₂, _∙_}
 use mathlib.Core.Logic.{_≢_}
-use mathlib.Core.Bool.{Bool, true, false}
+use mathlib.Core.Bool.{false}
 use mathlib.Core.List.{List}
-use native.Mathlib.Omega.{arith}
 use lib.ListN.{length, getD, set}
-use lib.Dec.{eqb}
 use borrow.Author.Tests.{ne-eqb}
 use Rattle.laws.specs.Lists.{tabulate, getD-tabulate, set-tabulate}
 use Rattle.queue.specs.declared.Queues.{Queues}
 use Rattle.queue.specs.Stands.{queuesOf}
 use Rattle.scheduler.specs.Models.{noSet}
 use Rattle.rules.specs.Queues.{QueueSet}
-use Rattle.rules.specs.State.{Where, ready, forMutex, onCondition, same, Rows, Sets, tied, setAt, putSet, tie}
+use Rattle.rules.specs.State.{Where, forMutex, onCondition, same, Rows, Sets, tied, setAt, putSet, tie}
 use Rattle.soundness.proofs.Rows.{Has, set-same, set-other, tied-tie}
 use Rattle.meaning.proofs.Rows.{small-16}
 

@@ -1,10 +1,10 @@
 -- The sets of queues side by side: where each place's set stands among them, and what putting one changes.
 -- Assumes nothing.
-use Prim.Native.Nat.{ℕ, zero, suc, _+_, _<_, _≤_}
+use Prim.Native.Nat.{ℕ, suc, _+_, _<_}
 use mathlib.Core.Path.{_≡_, refl, sym, ap, _∙_}
-use mathlib.Core.List.{List, [], _∷_, _++_}
+use mathlib.Core.List.{[], _∷_}
 use native.Mathlib.Omega.{arith}
-use lib.ListN.{length, getD, set, length-append, List·getD-append}
+use lib.ListN.{length, set, length-append, List·getD-append}
 use lib.Seq.{getD-append-add, set-append-left}
 use Rattle.laws.specs.Lists.{at, getD-any, set-append-add}
 use Rattle.rules.specs.Queues.{QueueSet, emptySet}

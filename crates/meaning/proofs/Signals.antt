@@ -1,35 +1,32 @@
 -- What the scheduler's functions do to the value that describes a scheduler is what document 01's calls do: signals, new threads and mutexes,
 -- and the choice of the next thread.
 -- Assumes nothing.
-use Prim.Native.Nat.{ℕ, zero, suc, _+_, _-_, _%_, _<_, _≤_, max}
-use mathlib.Core.Path.{_≡_, refl, sym, ap, ap₂, _∙_, subst}
+use Prim.Native.Nat.{ℕ, zero, suc, _+_, _-_, _%_, _<_, _≤_}
+use mathlib.Core.Path.{_≡_, refl, sym, ap, ap₂, _∙_}
 use mathlib.Core.Bool.{Bool, true, cond}
-use mathlib.Core.List.{List, [], _∷_, _++_, flatten}
 use native.Mathlib.Omega.{arith}
-use lib.ListN.{length, getD, set, replicate}
-use lib.Dec.{eqb, ltb, leb}
-use borrow.Author.Tests.{lt-leb, eqb-true, eqb-false, ne-eqb}
-use Rattle.laws.specs.Bools.{by-cases, self}
+use lib.ListN.{length, getD, set}
+use lib.Dec.{eqb, leb}
+use borrow.Author.Tests.{lt-leb, eqb-true}
+use Rattle.laws.specs.Bools.{by-cases}
 use Rattle.laws.specs.Lists.{tabulate}
-use Rattle.queue.specs.declared.Queues.{Queues}
-use Rattle.queue.specs.Stands.{linkOf, linksOf, queuesOf}
+use Rattle.queue.specs.Stands.{queuesOf}
 use Rattle.parts.specs.declared.Head.{Head}
 use Rattle.parts.specs.declared.Waiting.{Waiting}
-use Rattle.parts.specs.Models.{Ran}
 use Rattle.parts.specs.Models as parts
 use Rattle.parts.specs.Models.{headModel, leaveModelIn}
 use Rattle.scheduler.specs.declared.Mutex as scheduler
 use Rattle.scheduler.specs.declared.Scheduler as scheduled
 use Rattle.scheduler.specs.Models.{Signalled}
 use Rattle.scheduler.specs.Models as models
-use Rattle.scheduler.specs.Models.{mutexOf, onConditionOf, ownModel, waitForModel, readyModel, wakeModel, leaveConditionModel, untieModel, signalToModel, signalModel, broadcastModel, createModel, createMutexModel, withRan, runFirstModel, chooseNextModel}
+use Rattle.scheduler.specs.Models.{mutexOf, onConditionOf, ownModel, waitForModel, readyModel, wakeModel, leaveConditionModel, untieModel, signalToModel, signalModel, broadcastModel, withRan, runFirstModel, chooseNextModel}
 use Rattle.rules.specs.Queues.{First, nobody, somebody, emptySet, firstLeaves}
-use Rattle.rules.specs.State.{Where, running, ready, forMutex, onCondition, waits, Rows, Sets, Scheduler, noMutex, thread, mutex, tied, priority, withRows, stand, own, tie, setAt, putSet, firstAt, arrive, arriveInFront, depart}
+use Rattle.rules.specs.State.{running, ready, forMutex, onCondition, waits, Scheduler, noMutex, thread, mutex, tied, priority, withRows, stand, own, tie, setAt, putSet, firstAt, arrive, arriveInFront, depart}
 use Rattle.rules.specs.Next.{run, runFirst, chooseNext}
 use Rattle.rules.specs.Effects.{woken, untied, signalledTo, signalled, signalledTimes, leaver, leavers}
 use Rattle.soundness.proofs.Fits.{first-queue}
-use Rattle.soundness.proofs.Rows.{Real, stands-stand, length-stand, length-tie, set-same}
-use Rattle.soundness.proofs.Facts.{Facts, Queued, Waiter, low}
+use Rattle.soundness.proofs.Rows.{stands-stand, length-stand, set-same}
+use Rattle.soundness.proofs.Facts.{Queued, Waiter, low}
 use Rattle.soundness.proofs.Moves.{first-at, first-stands, first-exists, queued-leave, queued-own, queued-tie}
 use Rattle.soundness.proofs.Next.{Kept, Turned}
 use Rattle.soundness.proofs.Calls.{Going, Left, left-signalled, nobody-255, stands-there, low-taken}

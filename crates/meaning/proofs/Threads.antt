@@ -1,31 +1,28 @@
 -- The threads' functions on the value that describes a scheduler give the value that describes the definition's next one.
 -- Assumes nothing.
-use Prim.Native.Nat.{ℕ, zero, suc, _+_, _%_, _<_, _≤_}
-use mathlib.Core.Path.{_≡_, refl, sym, ap, ap₂, _∙_, subst}
+use Prim.Native.Nat.{ℕ, _<_, _≤_}
+use mathlib.Core.Path.{_≡_, refl, sym, ap, _∙_}
 use mathlib.Core.Bool.{Bool, true, false, cond, _&&_, false≢true}
-use mathlib.Core.List.{List, [], _∷_, flatten}
+use mathlib.Core.List.{flatten}
 use native.Mathlib.Omega.{arith}
 use lib.ListN.{length, set}
 use lib.Seq.{set-getD}
 use lib.Dec.{eqb, ltb, leb}
 use borrow.Author.Tests.{lt-leb}
 use Rattle.laws.specs.Bools.{by-cases, and-false}
-use Rattle.laws.specs.Lists.{tabulate}
 use Rattle.queue.specs.Stands.{linksOf, queuesOf}
 use Rattle.parts.specs.declared.Thread as parts
 use Rattle.parts.specs.declared.Threads.{Threads}
 use Rattle.parts.specs.declared.Joined.{Joined}
-use Rattle.parts.specs.declared.Head.{Head}
 use Rattle.parts.specs.Models.{Ran}
-use Rattle.parts.specs.declared.Waiting.{Waiting}
-use Rattle.parts.specs.Models.{joinModel, joinFrontModel, partModel, headModel, blank, rowOf, standModel, withReady, arriveModel, arriveInFrontModel, withLinks, waitModel, leaveModelIn, ran, runModel, runFirstModel, chooseNextModel}
-use Rattle.rules.specs.Queues.{QueueSet, First, nobody, somebody, toBack, toFront, firstLeaves, first}
+use Rattle.parts.specs.Models.{joinModel, joinFrontModel, partModel, headModel, rowOf, standModel, withReady, arriveModel, arriveInFrontModel, withLinks, waitModel, leaveModelIn, ran, runModel, runFirstModel, chooseNextModel}
+use Rattle.rules.specs.Queues.{QueueSet, First, nobody, somebody, toBack, toFront, firstLeaves}
 use Rattle.rules.specs.State.{Where, running, ready, forMutex, onCondition, waits, Rows, Sets, Scheduler, noThread, thread, priority, withThreads, stand, setAt, putSet, firstAt, arrive, arriveInFront, depart}
 use Rattle.rules.specs.Next.{run, runFirst, higher, equal, chooseNext}
 use Rattle.rules.specs.Page.{stateCode, objectCode}
 use Rattle.soundness.proofs.Fits.{first-queue}
-use Rattle.soundness.proofs.Rows.{Real, priority-stand, length-stand}
-use Rattle.soundness.proofs.Facts.{Facts, Queued, low}
+use Rattle.soundness.proofs.Rows.{Real, length-stand}
+use Rattle.soundness.proofs.Facts.{Queued, low}
 use Rattle.soundness.proofs.Moves.{first-exists, queued-arrive, queued-front}
 use Rattle.soundness.proofs.Next.{Kept, Turned}
 use Rattle.soundness.proofs.Calls.{stands-there}

@@ -2,9 +2,8 @@
 -- to the last unused slot.
 -- Assumes nothing.
 use Prim.Native.Nat.{ℕ}
-use mathlib.Core.List.{List, [], _∷_, _++_, flatten}
+use mathlib.Core.List.{List, _∷_, _++_, flatten}
 use Rattle.laws.specs.Lists.{tabulate}
-use Rattle.queue.specs.declared.Queues.{Queues}
 use Rattle.queue.specs.Stands.{linksOf, queuesOf}
 use Rattle.parts.specs.declared.Thread as parts
 use Rattle.parts.specs.declared.Threads.{Threads}

@@ -1,10 +1,10 @@
 // Whether the mutexes and the condition variables of a page are sound: owners, waiters and ties.
 // An id is taken modulo the size of its table, so that every function is total; the limits are tested first.
+use choice::both;
 use page::ThreadRow;
 use scheduler::Mutex;
 use standing::Known;
 use standing::anyone;
-use standing::both;
 use standing::implied;
 use standing::owns_nothing;
 use standing::stands;

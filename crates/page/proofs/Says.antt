@@ -1,15 +1,15 @@
 -- A page of the code that was made for a page says that page, as long as its tables are within their limits.
 -- Assumes nothing.
-use Prim.Native.Nat.{ℕ, _≤_, _<_}
+use Prim.Native.Nat.{ℕ, _≤_}
 use mathlib.Core.Path.{_≡_, refl, ap, _∙_}
 use mathlib.Core.List.{List}
 use native.Mathlib.Omega.{arith}
 use lib.ListN.{length, getD}
-use Rattle.laws.specs.Lists.{getD-any, tabulate, getD-tabulate, tabulate-one}
+use Rattle.laws.specs.Lists.{tabulate, getD-tabulate}
 use Rattle.rules.specs.State.{noMutex}
 use Rattle.rules.specs.Page.{Page, noRow}
 use Rattle.pages.proofs.Rows.{tabulate-is}
-use Rattle.page.specs.Says.{threadSaid, mutexSaid, timerSaid, threadFor, mutexFor, timerFor, noThreadRow, noMutexRow, noTimerRow, stoppedTimerRow, said, pageFor, nothing}
+use Rattle.page.specs.Says.{threadSaid, mutexSaid, timerSaid, threadFor, mutexFor, timerFor, noThreadRow, noMutexRow, noTimerRow, stoppedTimerRow, said, pageFor}
 
 -- the tables are not longer than the code's
 pub record Fits (p : Page) : Type 0 where

@@ -1,8 +1,7 @@
 -- What a page of the code says, and the one page of the code that says it: blank past the counts.
 -- Assumes nothing.
-use Prim.Native.Nat.{ℕ}
 use mathlib.Core.Bool.{false}
-use mathlib.Core.List.{List, []}
+use mathlib.Core.List.{[]}
 use lib.ListN.{length, getD}
 use Rattle.laws.specs.Lists.{tabulate}
 use Rattle.rules.specs.State as state

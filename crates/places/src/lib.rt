@@ -1,9 +1,9 @@
 // Whether the threads of a page are sound: their rows, their places, thread 0, and the running thread.
 // An id is taken modulo the size of its table, so that every function is total; the limits are tested first.
+use choice::both;
 use page::ThreadRow;
 use scheduler::Mutex;
 use standing::Known;
-use standing::both;
 use standing::implied;
 use standing::kind;
 use standing::owns_nothing;

@@ -1,22 +1,21 @@
 -- The tests of the code decide right form: the counts fit, the states are among the document's, and the bytes are the record of the page read.
 -- Assumes nothing.
-use Prim.Native.Nat.{ℕ, zero, suc, _+_, _%_, _<_, _≤_}
+use Prim.Native.Nat.{ℕ, _+_, _%_, _<_, _≤_}
 use mathlib.Core.Path.{_≡_, refl, sym, ap, ap₂, _∙_, subst}
 use mathlib.Core.Bool.{Bool, true, false, _||_, _&&_}
-use mathlib.Core.List.{List, [], _∷_, _++_}
+use mathlib.Core.List.{List, _++_}
 use native.Mathlib.Omega.{arith}
-use lib.ListN.{length, getD, take, drop, replicate, length-replicate, List·getD-append}
+use lib.ListN.{length, getD, drop, replicate, length-replicate, List·getD-append}
 use lib.Seq.{sets, sets-eq}
 use lib.Dec.{eqb, ltb, leb}
 use borrow.Author.Tests.{eqb-true, leb-true, ltb-false, le-leb, eq-eqb}
 use Rattle.laws.specs.Bools.{and-left, and-right, and-both, nor-right, denied, self, refuted, no-way}
 use Rattle.laws.specs.Lists.{tabulate}
-use Rattle.rules.specs.Sound.{all, each}
 use Rattle.rules.specs.Page.{threadFormed, timerFormed, eachRow, pageFormed}
-use Rattle.soundness.proofs.Tests.{AllTrue, all-true, true-all, iff, each-at, at-each}
+use Rattle.soundness.proofs.Tests.{AllTrue, all-true, iff, each-at, at-each}
 use Rattle.pages.proofs.Rows.{tabulate-is}
 use Rattle.saved.specs.Record.{AreBytes, byte, wordAt, headerIn, headerOf, recordOf, pageIn, countsFit, rightForm, formed}
-use Rattle.saved.proofs.Reading.{page-read, form-written, length-record}
+use Rattle.saved.proofs.Reading.{form-written}
 use Rattle.saved.proofs.Writing.{states-formed, written-read}
 use Rattle.page.specs.declared.Page.{Page}
 use Rattle.page.specs.Says.{threadSaid, timerSaid, noThreadRow, noTimerRow, said}

@@ -3,7 +3,7 @@
 use Prim.Native.Nat.{ℕ, zero, suc, _+_, _*_, _<_, _≤_}
 use mathlib.Core.Path.{_≡_, refl, sym, ap, ap₂, _∙_}
 use mathlib.Core.Bool.{true, cond}
-use mathlib.Core.List.{List, [], _∷_, map}
+use mathlib.Core.List.{List, _∷_, map}
 use native.Mathlib.Nat.{mul-suc}
 use native.Mathlib.Omega.{arith}
 use lib.ListN.{getD, take, drop}
@@ -13,10 +13,10 @@ use borrow.Author.Tests.{lt-ltb}
 use Rattle.laws.specs.Lists.{tabulate, getD-tabulate, tabulate-same, tabulate-below}
 use Rattle.rules.specs.State.{noMutex}
 use Rattle.rules.specs.Page.{noRow}
-use Rattle.saved.specs.Record.{byte, wordAt, Header, headerIn, threadIn, mutexIn, tieIn, timerIn, cutRows, pageIn, formed}
+use Rattle.saved.specs.Record.{byte, wordAt, headerIn, threadIn, mutexIn, tieIn, timerIn, cutRows, pageIn, formed}
 use Rattle.saved.proofs.Writing.{same-header}
 use Rattle.page.specs.Says.{threadSaid, mutexSaid, timerSaid, threadFor, mutexFor, timerFor, noThreadRow, noMutexRow, noTimerRow, stoppedTimerRow, said}
-use Rattle.reading.specs.Rows.{threadAt, mutexAt, timerAt, threadOr, mutexOr, tieOr, timerOr, readModel}
+use Rattle.reading.specs.Rows.{threadAt, mutexAt, timerAt, readModel}
 
 -- the first n rows of a table whose other rows are blank
 first-rows : {A B : Type 0} (size n : ℕ) (f : ℕ → B) (blank none : B) (g : B → A) → n ≤ size

@@ -1,14 +1,13 @@
 -- The three ends of a save are document 01's, every byte of the buffer included; and what the promise of a save allows is one result only.
 -- Assumes nothing.
 use Prim.Native.Nat.{ℕ, _+_, _<_, _≤_}
-use mathlib.Core.Path.{_≡_, refl, sym, ap, ap₂, _∙_, subst}
+use mathlib.Core.Path.{_≡_, refl, sym, ap, _∙_, subst}
 use mathlib.Core.Logic.{_⊎_, inl, inr, _↔_}
 use mathlib.Core.Bool.{Bool, true, false, true≢false}
 use mathlib.Core.List.{List, _++_}
 use native.Mathlib.Omega.{arith}
-use lib.ListN.{length, take, drop}
+use lib.ListN.{length, drop}
 use lib.Seq.{sets, sets-eq}
-use lib.Dec.{ltb}
 use borrow.Author.Tests.{lt-ltb}
 use Rattle.calls.specs.declared.Verdict.the-variants.{NotSound}
 use Rattle.calls.specs.Answers.{numberOf}
@@ -16,7 +15,7 @@ use Rattle.rules.specs.State.{State}
 use Rattle.rules.specs.Sound.{sound}
 use Rattle.rules.specs.Page.{pageOf}
 use Rattle.saved.specs.Record.{recordOf}
-use Rattle.saved.specs.Loading.{save, saved}
+use Rattle.saved.specs.Loading.{saved}
 use Rattle.saved.proofs.Loading.{save-done, save-short}
 use Rattle.pages.proofs.Pages.{page-of-sound}
 use Rattle.engine.specs.Stands.{engineOf}

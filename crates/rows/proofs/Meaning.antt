@@ -1,11 +1,10 @@
 -- A row of the engine that describes a sound state is document 01's row.
 -- Assumes nothing.
-use mathlib.Core.Path.{_≡_, refl, sym, ap, _∙_}
-use mathlib.Core.Bool.{true, cond}
+use mathlib.Core.Path.{_≡_, ap, _∙_}
+use mathlib.Core.Bool.{true}
 use mathlib.Core.List.{List}
 use Prim.Native.Nat.{ℕ}
 use Rattle.calls.specs.declared.Answer.{Answer}
-use Rattle.calls.specs.declared.Decoded.{Decoded}
 use Rattle.calls.specs.declared.Decoded.the-variants.{Taken, WrongForm}
 use Rattle.calls.specs.Rows.{decoded}
 use Rattle.rules.specs.State.{State}

@@ -1,7 +1,7 @@
 -- What a saved record says, as plain rows of numbers; when such a page is sound; the state that it describes, and the page of a state.
 -- Assumes nothing.
 use Prim.Native.Nat.{ℕ, zero, suc, _+_}
-use mathlib.Core.Bool.{Bool, true, false, cond, not, _||_, _&&_}
+use mathlib.Core.Bool.{Bool, true, cond, not, _||_, _&&_}
 use mathlib.Core.List.{List, [], _∷_, map, flatten}
 use lib.ListN.{length, getD}
 use lib.Dec.{eqb, ltb, leb}

@@ -8,7 +8,7 @@ use lib.ListN.{length}
 use lib.Dec.{eqb, ltb, leb}
 use Rattle.units.specs.Units.{outside}
 use Rattle.rules.specs.Queues.{QueueSet, queue}
-use Rattle.rules.specs.State.{Where, running, ready, forMutex, onCondition, waits, Mutex, Timer, Rows, Sets, State, thread, mutex, tied, at, priority, owned, setAt}
+use Rattle.rules.specs.State.{Where, running, ready, forMutex, onCondition, waits, Timer, Rows, Sets, State, thread, mutex, tied, at, priority, owned, setAt}
 use Rattle.rules.specs.Effects.{goes}
 
 -- ---- tests over lists and numbers

@@ -1,11 +1,11 @@
 // The scheduler: threads, mutexes, condition variables and their sets of queues; the largest ceiling that a thread owns, and how a thread waits,
 // which the building of a loaded state needs. What the calls do to it stands in `moves` and `owners`, in place.
 // An id is taken modulo the size of its table, so that every function is total; callers hand in ids that exist.
+use choice::larger;
 use parts::Thread;
 use parts::Threads;
 use queue::Queues;
 ghost use mathlib.Core.Path.{_≡_};
-ghost use Prim.Native.Nat.{max};
 ghost use Rattle.scheduler.specs.Models.{ceilingFor, highestIn, waitForModel, waitOnModel, rowModel};
 
 // A mutex's row: its ceiling, its owner, 255 for none, and its count.
@@ -24,16 +24,6 @@ pub struct Scheduler {
     pub ties: [u8; 16],
     pub oncondition: [Queues; 16],
     pub running: u8,
-}
-
-// The larger of two.
-pub fn larger(a: u8, b: u8) -> u8
-    ensures { λ r. ⌜ r ≡ max a b ⌝ }
-{
-    if a < b {
-        return b;
-    }
-    a
 }
 
 // The ceiling of a mutex that thread t owns, or 0.

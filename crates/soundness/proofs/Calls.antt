@@ -2,19 +2,19 @@
 -- Assumes nothing.
 use Prim.Native.Nat.{ℕ, zero, suc, _+_, _-_, _<_, _≤_}
 use mathlib.Core.Path.{_≡_, refl, sym, ap, _∙_, subst}
-use mathlib.Core.Bool.{Bool, true, false, cond, not, _||_, _&&_, false≢true, true≢false}
+use mathlib.Core.Bool.{Bool, true, false, cond, false≢true, true≢false}
 use mathlib.Core.List.{List, [], _∷_}
 use native.Mathlib.Omega.{arith}
 use native.Mathlib.Nat.{le-trans}
 use lib.ListN.{length, getD, List·getD-eq-default}
 use lib.Dec.{eqb, ltb}
 use borrow.Author.Tests.{eqb-true, eqb-false, eq-eqb, ne-eqb, ltb-true, le-ltb}
-use Rattle.laws.specs.Bools.{by-cases, no-way, refuted, self}
+use Rattle.laws.specs.Bools.{by-cases, no-way, self}
 use Rattle.rules.specs.Queues.{First, nobody, somebody, toBack}
 use Rattle.rules.specs.State.{Where, running, ready, forMutex, onCondition, same, waits, Thread, Mutex, Rows, Sets, Scheduler, noThread, noMutex, thread, mutex, tied, at, priority, owned, withRows, stand, own, tie, setAt, putSet, firstAt, arrive, depart}
 use Rattle.rules.specs.Effects.{acquired, passedTo, released, waited, woken, untied, signalledTo, signalled, signalledTimes, signalledEach}
-use Rattle.soundness.proofs.Rows.{same-self, same-true, Real, at-stand, base-stand, stands-stand, priority-stand, length-stand, owner-own, ceiling-own, length-own, tied-tie, length-tie, owned-none, priority-base, base-below}
-use Rattle.soundness.proofs.Facts.{Apart, Held, Waiter, Facts, TiesEnd, Queued, Runs, low, Enters, facts-stand, ties-stand, facts-own, ties-own, facts-tie, ties-tie}
+use Rattle.soundness.proofs.Rows.{same-self, Real, at-stand, base-stand, stands-stand, priority-stand, length-stand, owner-own, ceiling-own, length-own, tied-tie, length-tie, owned-none, priority-base, base-below}
+use Rattle.soundness.proofs.Facts.{Held, Waiter, Facts, TiesEnd, Queued, low, Enters, facts-stand, ties-stand, facts-own, ties-own, facts-tie, ties-tie}
 use Rattle.soundness.proofs.Moves.{first-at, first-stands, first-exists, queued-leave, nobody-at, queued-arrive, queued-own, queued-tie, stand-stand}
 use Rattle.soundness.proofs.Next.{Kept, Turned}
 

@@ -1,20 +1,19 @@
 -- Soundness as facts to prove with, and how the facts about the rows are kept when a thread stands elsewhere, a mutex changes hands or a tie
 -- changes.
 -- Assumes nothing.
-use Prim.Native.Nat.{ℕ, zero, suc, _+_, _<_, _≤_, max}
+use Prim.Native.Nat.{ℕ, suc, _<_, _≤_}
 use mathlib.Core.Path.{_≡_, refl, sym, ap, _∙_, subst}
-use mathlib.Core.Bool.{Bool, true, false, cond, false≢true, true≢false}
+use mathlib.Core.Bool.{Bool, true, false, cond, true≢false}
 use mathlib.Core.List.{List, [], _∷_}
 use native.Mathlib.Omega.{arith}
-use native.Mathlib.Decide.{ℕ-discrete}
 use lib.ListN.{length, getD}
 use lib.Dec.{eqb}
-use borrow.Author.Tests.{eqb-true, eqb-false, eq-eqb, ne-eqb}
-use Rattle.laws.specs.Bools.{by-cases, no-way, refuted, self}
-use Rattle.rules.specs.State.{Where, running, ready, forMutex, onCondition, same, waits, Mutex, Timer, Rows, Sets, State, noMutex, thread, mutex, tied, at, highestCeiling, priority, owned, stand, own, tie, setAt}
+use borrow.Author.Tests.{eqb-true, eqb-false}
+use Rattle.laws.specs.Bools.{by-cases, no-way, refuted}
+use Rattle.rules.specs.State.{Where, running, ready, forMutex, onCondition, same, waits, Mutex, Timer, Rows, Sets, State, noMutex, thread, mutex, tied, at, highestCeiling, priority, stand, own, tie, setAt}
 use Rattle.rules.specs.Sound.{timersSound, noneGoes}
 use Rattle.soundness.proofs.Fits.{Fits}
-use Rattle.soundness.proofs.Rows.{same-self, same-true, Real, thread-stand, base-stand, stands-stand, at-stand, priority-stand, length-stand, mutex-own, ceiling-own, owner-own, length-own, priority-own, tied-tie, length-tie}
+use Rattle.soundness.proofs.Rows.{same-true, Real, base-stand, stands-stand, at-stand, priority-stand, length-stand, mutex-own, ceiling-own, owner-own, length-own, priority-own, tied-tie, length-tie}
 
 -- two threads are not one
 abbrev pub Apart : ℕ → ℕ → Type 0

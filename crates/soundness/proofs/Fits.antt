@@ -7,11 +7,11 @@ use mathlib.Core.Bool.{Bool, true, false, not, _||_, _&&_, false≢true}
 use mathlib.Core.List.{List, [], _∷_, _++_, tail}
 use native.Mathlib.Omega.{arith}
 use native.Mathlib.Decide.{ℕ-discrete}
-use lib.ListN.{length, getD, set, length-set, replicate, getD-replicate}
+use lib.ListN.{length, set, length-set, getD-replicate}
 use lib.Seq.{getD-set-same, getD-set-other}
 use lib.Dec.{eqb, ltb}
-use borrow.Author.Tests.{eqb-true, eqb-false, eq-eqb, ne-eqb, lt-ltb, le-ltb, ltb-true, ltb-false}
-use Rattle.laws.specs.Bools.{by-cases, no-way, refuted, or-elim, or-left, or-right, or-false, or-assoc, or-comm, and-true, and-false, and-left, and-right, and-both, self}
+use borrow.Author.Tests.{eqb-true, eqb-false, ne-eqb, lt-ltb, le-ltb, ltb-true, ltb-false}
+use Rattle.laws.specs.Bools.{by-cases, no-way, refuted, or-elim, or-right, or-false, or-assoc, or-comm, and-true, and-false, and-left, and-right, and-both, self}
 use Rattle.rules.specs.Queues.{QueueSet, emptySet, queue, toBack, toFront, firstLeaves, First, nobody, somebody, firstOr, firstBelow, first}
 use Rattle.rules.specs.Sound.{mem}
 use Rattle.soundness.proofs.Tests.{mem-first}

@@ -1,32 +1,32 @@
 -- Soundness is kept: a sound state and any call give a sound state, in facts.
 -- Assumes nothing.
-use Prim.Native.Nat.{ℕ, zero, suc, _+_, _%_, _<_, _≤_}
+use Prim.Native.Nat.{ℕ, _+_, _<_, _≤_}
 use mathlib.Core.Path.{_≡_, refl, sym, ap, _∙_, subst}
-use mathlib.Core.Bool.{Bool, true, false, cond, not, _||_, _&&_, false≢true, true≢false}
+use mathlib.Core.Bool.{Bool, true, false, cond, not, _&&_, false≢true}
 use mathlib.Core.List.{List, [], _∷_, _++_, map}
 use native.Mathlib.Omega.{arith}
 use lib.ListN.{length, set, length-set, length-map}
 use lib.Dec.{eqb, ltb, leb}
 use borrow.Author.Tests.{eqb-true, eqb-false, eq-eqb, ne-eqb, ltb-false, leb-false, not-false}
-use Rattle.laws.specs.Bools.{by-cases, no-way, self, nor-left, nor-right, cond-true, cond-false}
+use Rattle.laws.specs.Bools.{by-cases, no-way, nor-left, nor-right, cond-true, cond-false}
 use Rattle.units.specs.Units.{ticksIn, outside}
 use Rattle.calls.specs.declared.Call.{Call}
 use Rattle.calls.specs.declared.Call.the-variants.{Start, CreateThread, CreateMutex, CreateCondition, CreateTimer, Acquire, Release, Wait, Signal, Broadcast, StartTimer, StopTimer, Tick}
 use Rattle.calls.specs.declared.Kind.{Kind}
 use Rattle.calls.specs.declared.Kind.the-variants.{OneShot, Periodic}
 use Rattle.calls.specs.Answers.{numberOf}
-use Rattle.rules.specs.State.{running, ready, same, Thread, Timer, Rows, Scheduler, State, stoppedTimer, thread, mutex, tied, at, priority, owned, withRows, withStarted, stand, arrive}
+use Rattle.rules.specs.State.{running, ready, same, Thread, Timer, Rows, Scheduler, State, stoppedTimer, thread, mutex, tied, at, priority, owned, withStarted, stand, arrive}
 use Rattle.rules.specs.Next.{runFirst, chooseNext}
 use Rattle.rules.specs.Effects.{threadCreated, mutexCreated, conditionCreated, acquired, released, waited, signalled, signalledTimes, signalledEach, stateOf, goes, ticked, dueConditions, nextCount, withScheduler, withTimers, effect}
 use Rattle.rules.specs.Refusals.{Test, verdict, tests, verdictOf}
-use Rattle.rules.specs.Sound.{timerSound, timersSound, noneGoes}
+use Rattle.rules.specs.Sound.{timersSound}
 use Rattle.rules.specs.Step.{isTick, after, stepSound}
 use Rattle.soundness.proofs.Rows.{same-self, at-stand, length-stand}
-use Rattle.soundness.proofs.Facts.{Facts, TiesEnd, Queued, Runs, Rests, Sound}
-use Rattle.soundness.proofs.Next.{Kept, Turned, Chosen, handed, facts-handed, queued-handed, first-runs, next-chosen}
-use Rattle.soundness.proofs.Calls.{Going, turned-going, Left, left-turned, left-released, left-acquired, left-waited, left-signalled, left-times, left-each, stands-there}
-use Rattle.soundness.proofs.Creating.{length-more, withThread, withMutex, withCondition, kept-thread, kept-mutex, kept-condition, going-thread, old-thread, same-owner}
-use Rattle.soundness.proofs.Timers.{Goes, timer-going, timers-more, timers-set, timers-created, timers-ticked, due-below, none-goes-created}
+use Rattle.soundness.proofs.Facts.{Rests, Sound}
+use Rattle.soundness.proofs.Next.{Kept, Turned, Chosen, facts-handed, queued-handed, first-runs, next-chosen}
+use Rattle.soundness.proofs.Calls.{Going, turned-going, Left, left-turned, left-released, left-acquired, left-waited, left-signalled, left-times, left-each}
+use Rattle.soundness.proofs.Creating.{length-more, withThread, kept-thread, kept-mutex, kept-condition, going-thread, old-thread, same-owner}
+use Rattle.soundness.proofs.Timers.{timer-going, timers-more, timers-set, timers-created, timers-ticked, due-below, none-goes-created}
 
 -- ---- an accepted call passed all its tests
 

@@ -1,20 +1,19 @@
 -- How the queues are kept: when the first of a place leaves, when a thread that stands nowhere arrives, when a mutex changes hands between
 -- threads that are in no queue.
 -- Assumes nothing.
-use Prim.Native.Nat.{ℕ, zero, suc, _<_, _≤_}
+use Prim.Native.Nat.{ℕ, _<_, _≤_}
 use mathlib.Core.Path.{_≡_, refl, sym, ap, _∙_, subst}
-use mathlib.Core.Bool.{Bool, true, false, cond, not, _||_, _&&_, false≢true, true≢false}
-use mathlib.Core.List.{List, [], _∷_, tail}
-use native.Mathlib.Omega.{arith}
-use lib.ListN.{length, getD, set}
+use mathlib.Core.Bool.{true, false, not, _||_, _&&_}
+use mathlib.Core.List.{tail}
+use lib.ListN.{length, set}
 use lib.Seq.{set-set}
 use lib.Dec.{eqb}
-use borrow.Author.Tests.{eqb-true, eqb-false, eq-eqb, ne-eqb}
-use Rattle.laws.specs.Bools.{by-cases, no-way, refuted, self, or-false, or-right, and-true, and-false}
-use Rattle.rules.specs.Queues.{QueueSet, queue, toBack, toFront, firstLeaves, First, nobody, somebody, first}
-use Rattle.rules.specs.State.{Where, running, ready, forMutex, onCondition, same, waits, Thread, Rows, Sets, Scheduler, thread, mutex, at, priority, withThreads, stand, own, tie, setAt, putSet, firstAt}
+use borrow.Author.Tests.{eqb-true}
+use Rattle.laws.specs.Bools.{by-cases, no-way, or-false, or-right, and-true, and-false}
+use Rattle.rules.specs.Queues.{QueueSet, queue, toBack, toFront, firstLeaves, nobody, somebody, first}
+use Rattle.rules.specs.State.{Where, running, ready, forMutex, onCondition, same, Rows, Sets, thread, mutex, at, priority, withThreads, stand, own, tie, setAt, putSet}
 use Rattle.soundness.proofs.Fits.{Fits, IsFirst, fits-frame, fits-back, fits-front, fits-leave, fits-first, first-queue}
-use Rattle.soundness.proofs.Rows.{same-self, same-true, Real, Has, not-running, standing-exists, at-stand, base-stand, stands-stand, priority-stand, length-stand, length-own, length-tie, priority-own, set-same, set-other, mutex-sets, condition-sets}
+use Rattle.soundness.proofs.Rows.{same-self, same-true, Real, Has, not-running, standing-exists, at-stand, base-stand, priority-stand, length-own, length-tie, priority-own, set-same, set-other, mutex-sets, condition-sets}
 use Rattle.soundness.proofs.Facts.{Apart, Queued}
 
 -- a place of the rows has a set of queues

@@ -1,19 +1,18 @@
 -- The choice of the next thread keeps soundness: whoever runs afterwards is the only one, and none is ready above it.
 -- Assumes nothing.
-use Prim.Native.Nat.{ℕ, zero, suc, _<_, _≤_}
-use mathlib.Core.Path.{_≡_, refl, sym, ap, _∙_, subst}
-use mathlib.Core.Bool.{Bool, true, false, cond, not, _||_, _&&_, false≢true, true≢false}
-use native.Mathlib.Omega.{arith}
+use Prim.Native.Nat.{ℕ, _<_, _≤_}
+use mathlib.Core.Path.{_≡_, refl, sym, ap, _∙_}
+use mathlib.Core.Bool.{Bool, true, false, cond, _&&_, false≢true, true≢false}
 use native.Mathlib.Nat.{le-trans}
 use lib.ListN.{length}
-use lib.Dec.{eqb, ltb}
+use lib.Dec.{eqb}
 use borrow.Author.Tests.{eqb-true, eqb-false, ltb-false}
 use Rattle.laws.specs.Bools.{by-cases, no-way, self}
 use Rattle.rules.specs.Queues.{First, nobody, somebody}
-use Rattle.rules.specs.State.{Where, running, ready, forMutex, onCondition, same, waits, Rows, Sets, Scheduler, thread, mutex, tied, at, priority, stand, setAt, putSet, firstAt, arrive, arriveInFront, depart}
+use Rattle.rules.specs.State.{Where, running, ready, forMutex, onCondition, same, waits, Rows, Sets, Scheduler, thread, at, priority, stand, firstAt, arrive, arriveInFront, depart}
 use Rattle.rules.specs.Next.{run, runFirst, higher, equal, chooseNext}
-use Rattle.soundness.proofs.Rows.{same-self, same-true, Real, at-stand, stands-stand, priority-stand, length-stand}
-use Rattle.soundness.proofs.Facts.{Apart, Held, Waiter, Facts, TiesEnd, Queued, Runs, low, facts-stand, ties-stand}
+use Rattle.soundness.proofs.Rows.{at-stand, stands-stand, priority-stand, length-stand}
+use Rattle.soundness.proofs.Facts.{Facts, TiesEnd, Queued, Runs, low, facts-stand, ties-stand}
 use Rattle.soundness.proofs.Moves.{first-stands, first-exists, first-priority, first-highest, queued-leave, nobody-at, queued-arrive, queued-front}
 
 -- what holds of the scheduler through a call

@@ -1,17 +1,17 @@
 -- The test of soundness says exactly what the facts say.
 -- Assumes nothing.
-use Prim.Native.Nat.{ℕ, zero, suc, _+_, _<_, _≤_}
+use Prim.Native.Nat.{ℕ, _<_, _≤_}
 use mathlib.Core.Path.{_≡_, refl, sym, ap, _∙_, subst}
-use mathlib.Core.Bool.{Bool, true, false, cond, not, _||_, _&&_, false≢true, true≢false}
-use mathlib.Core.List.{List, [], _∷_}
+use mathlib.Core.Bool.{Bool, true, false, cond, not, _&&_, false≢true, true≢false}
+use mathlib.Core.List.{List}
 use native.Mathlib.Omega.{arith}
-use lib.ListN.{length, getD, List·getD-eq-default}
+use lib.ListN.{length, List·getD-eq-default}
 use lib.Dec.{eqb, ltb, leb}
 use borrow.Author.Tests.{eqb-true, eqb-false, eq-eqb, ne-eqb, ltb-true, ltb-false, lt-ltb, le-ltb, leb-true, le-leb, not-true, not-false}
 use Rattle.laws.specs.Bools.{by-cases, no-way, refuted, self, nor-left, nor-right, and-left, and-right, and-both, cond-true, cond-false}
 use Rattle.units.specs.Units.{outside}
 use Rattle.rules.specs.State.{Where, running, ready, forMutex, onCondition, same, waits, Thread, Mutex, Timer, Rows, Sets, State, noThread, noMutex, thread, mutex, tied, at, priority, owned, setAt}
-use Rattle.rules.specs.Sound.{all, each, implies, limits, basesSound, ceilingsSound, idleSound, runnerSound, noneAbove, exists, objectsSound, anyone, ownerSound, waiterSound, mutexesSound, conditionSound, conditionsSound, timersSound, noneGoes, rest, clauses, holds, queueClauses, sound}
+use Rattle.rules.specs.Sound.{all, each, implies, limits, basesSound, ceilingsSound, idleSound, runnerSound, noneAbove, exists, objectsSound, anyone, ownerSound, waiterSound, mutexesSound, conditionSound, conditionsSound, rest, clauses, holds, queueClauses, sound}
 use Rattle.soundness.proofs.Tests.{AllTrue, all-true, true-all, implied, implying, each-at, at-each}
 use Rattle.soundness.proofs.Rows.{same-self, same-true, Real, not-running, standing-exists, owned-none, none-owned}
 use Rattle.soundness.proofs.Facts.{Held, Waiter, Facts, TiesEnd, Queued, Runs, Rests, Sound}

@@ -11,6 +11,7 @@ use Rattle.rules.specs.State.{Where, same, Thread}
 use Rattle.rules.specs.Sound.{each}
 use Rattle.rules.specs.Page.{whereOf, threadOf}
 use Rattle.scheduler.specs.declared.Mutex.{Mutex}
+use Rattle.scheduler.specs.Models.{ceilingFor}
 use Rattle.page.specs.declared.ThreadRow.{ThreadRow}
 use Rattle.page.specs.Says.{threadSaid, noThreadRow, noMutexRow}
 
@@ -42,10 +43,6 @@ kindOf state = cond (eqb state 1) 1 (cond (eqb state 2) 2 (cond (eqb state 3) 3 
 unfoldable pub highest : ℕ → (ℕ → ℕ) → ℕ
 highest zero f = 0
 highest (suc n) f = max (f n) (highest n f)
-
--- the ceiling of a mutex that thread t owns, or 0
-abbrev pub ceilingFor : Mutex → ℕ → ℕ
-ceilingFor row t = cond (eqb (row .owner) t) (row .ceiling) 0
 
 -- the largest ceiling of the first n mutexes that thread t owns, or 0
 unfoldable pub ceilingIn : List Mutex → ℕ → ℕ → ℕ

@@ -1,15 +1,16 @@
 // What the tests of a page read of its tables: where threads stand, their priorities, who owns nothing, and which thread runs.
 // An id is taken modulo the size of its table, so that every function is total; the limits are tested first.
+use choice::larger;
 use page::ThreadRow;
 use scheduler::Mutex;
+use scheduler::ceiling_for;
 ghost use mathlib.Core.Path.{_≡_};
-ghost use mathlib.Core.Bool.{not, _&&_};
-ghost use Prim.Native.Nat.{max};
+ghost use mathlib.Core.Bool.{not};
 ghost use Rattle.units.specs.Units.{outside};
 ghost use Rattle.rules.specs.State.{same};
 ghost use Rattle.rules.specs.Page.{whereOf, runnerFrom};
 ghost use Rattle.rules.specs.Sound.{implies};
-ghost use Rattle.standing.specs.Models.{kindOf, standsOf, ceilingFor, ceilingIn, prioritiesIn, freeIn, anyoneIn, threadsIn, topIn};
+ghost use Rattle.standing.specs.Models.{kindOf, standsOf, ceilingIn, prioritiesIn, freeIn, anyoneIn, threadsIn, topIn};
 
 // What the tests of one row read besides it: whether started, the running thread or 255, its priority, and how many threads, mutexes and
 // condition variables there are.
@@ -20,16 +21,6 @@ pub struct Known {
     pub threads: u8,
     pub mutexes: u8,
     pub conditions: u8,
-}
-
-// Whether both are true.
-pub fn both(x: bool, y: bool) -> bool
-    ensures { λ r. ⌜ r ≡ (x && y) ⌝ }
-{
-    if x {
-        return y;
-    }
-    false
 }
 
 // Whether the second is true if the first is.
@@ -83,19 +74,6 @@ pub fn stands(row: ThreadRow, state: u8, object: u8) -> bool
     row.object == object
 }
 
-// The larger of a number and the ceiling of a mutex that thread t owns.
-fn raised(best: u8, row: Mutex, t: u8) -> u8
-    ensures { λ r. ⌜ r ≡ max (ceilingFor row t) best ⌝ }
-{
-    if row.owner != t {
-        return best;
-    }
-    if row.ceiling < best {
-        return best;
-    }
-    row.ceiling
-}
-
 // The largest ceiling of the first n mutexes that thread t owns, or 0.
 fn highest_ceiling(mutexes: [Mutex; 16], n: u8, t: u8) -> u8
     ensures { λ r. ⌜ r ≡ ceilingIn mutexes n t ⌝ }
@@ -105,19 +83,11 @@ fn highest_ceiling(mutexes: [Mutex; 16], n: u8, t: u8) -> u8
     while 0 < m {
         m -= 1;
         let i = (m % 16) as usize;
-        best = raised(best, mutexes[i], t);
+        let row = mutexes[i];
+        let ceiling = ceiling_for(row, t);
+        best = larger(ceiling, best);
     }
     best
-}
-
-// The larger of two.
-fn larger(a: u8, b: u8) -> u8
-    ensures { λ r. ⌜ r ≡ max a b ⌝ }
-{
-    if a < b {
-        return b;
-    }
-    a
 }
 
 // The priority of each thread, with the first n mutexes.

@@ -1,17 +1,16 @@
 -- A text laid after the used part of a buffer: byte by byte, at once, and where there is no room.
 -- Assumes nothing.
-use Prim.Native.Nat.{ℕ, zero, suc, _+_, _-_, _<_, _≤_}
-use mathlib.Core.Path.{_≡_, refl, sym, ap, _∙_}
-use mathlib.Core.List.{List, [], _∷_, _++_, map, append-assoc}
+use Prim.Native.Nat.{ℕ, _+_, _-_, _<_, _≤_}
+use mathlib.Core.Path.{_≡_, sym, _∙_}
+use mathlib.Core.List.{List, [], map, append-assoc}
 use native.Mathlib.Nat.{add-zero}
 use native.Mathlib.Numerals.{add-one}
 use native.Mathlib.Omega.{arith}
 use borrow.Author.Tests.{le-leb, lt-leb}
-use lib.ListN.{length, take, drop, getD, set, replicate, length-append, length-drop, length-map, length-replicate, take-append-drop, drop-of-length-le}
+use lib.ListN.{length, take, drop, getD, set, replicate, length-drop, length-map, length-replicate, take-append-drop, drop-of-length-le}
 use lib.Seq.{paste, paste-suc, getD-drop, take-length, drop-at}
 use Rattle.laws.specs.Lists.{by-below}
-use Rattle.text.specs.declared.Text.{Text}
-use Rattle.text.specs.Texts.{textOf, bytesOf, laid, collected, usedAfter}
+use Rattle.text.specs.Texts.{textOf, bytesOf, collected, usedAfter}
 
 -- an array is as long as its elements
 pub length-mapped : (X Y : Type 0) (f : X → Y) (l : List X) (n : ℕ) → length (map f l) ≡ n → length l ≡ n

@@ -1,8 +1,7 @@
 -- Document 01's run, as one table: the lines of its three rows.
 -- Assumes nothing.
 use mathlib.Core.Path.{_≡_, refl}
-use mathlib.Core.List.{List, [], _∷_}
-use Prim.Native.Nat.{ℕ}
+use mathlib.Core.List.{[], _∷_}
 use Rattle.text.specs.Texts.{digitsIn, digits, lineBytes}
 
 -- `1 0 1 255`, `2 0 255 1` and `3 0 0 1`

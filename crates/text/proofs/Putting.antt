@@ -4,7 +4,7 @@ use Prim.Native.Nat.{ℕ, zero, suc, _+_, _-_, _/_, _%_, _^_, _<_, _≤_}
 use mathlib.Core.Path.{_≡_, refl, sym, ap, _∙_}
 use mathlib.Core.List.{List, [], _∷_, _++_, append-assoc}
 use native.Mathlib.Omega.{arith}
-use lib.ListN.{length, take, getD, set, replicate, length-append, length-replicate, replicate-append-replicate}
+use lib.ListN.{length, take, getD, replicate, length-append, length-replicate, replicate-append-replicate}
 use lib.Seq.{set-at, take-suc}
 use Rattle.calls.specs.declared.Answer.{Answer}
 use Rattle.text.specs.declared.Text.{Text}

@@ -14,7 +14,6 @@ use Rattle.laws.specs.Lists.{getD-tabulate, set-tabulate-below, tabulate, tabul
 use Rattle.laws.specs.Bools.{by-cases, or-false, or-right}
 use Rattle.laws.specs.Bits.{wordOf, among, put, word-same, word-none, word-one, or-words, among-next}
 use Rattle.wheel.specs.declared.Ticked.{Ticked}
-use Rattle.wheel.specs.Wheels.{}
 use Rattle.wheel.specs.Inside.{bitOf, Midst, visit, visited}
 
 -- the bit of an id that is one of the 32 is a word of that id alone

@@ -2,7 +2,6 @@
 use mathlib.Core.Path.{sym}
 use borrow.Author.Tests.{lt-ltb, le-ltb, lt-leb, le-leb}
 use Rattle.laws.specs.Bools.{and-true}
-use borrow.Author.Needs.{needs}
 use Rattle.reading.proofs.counts_fit.Statement.{statement}
 use Rattle.reading.proofs.counts_fit.Tie as tie
 

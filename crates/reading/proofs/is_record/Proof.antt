@@ -1,7 +1,6 @@
 -- `is_record` meets its contract: the length decides, or the bytes. Assumes nothing.
 use Prim.Native.Nat.{_<_, _≤_}
-use mathlib.Core.Path.{_≡_, sym, ap, _∙_, subst}
-use lib.ListN.{length}
+use mathlib.Core.Path.{sym, ap, _∙_, subst}
 use Rattle.saved.specs.Record.{recordOf}
 use Rattle.page.specs.Says.{said}
 use Rattle.reading.specs.Rows.{agree}

@@ -1,6 +1,5 @@
 -- `read` meets its contract: the header's numbers and the four tables. Assumes nothing.
 use Prim.Native.Nat.{_+_, _*_}
-use mathlib.Core.Path.{ap}
 use lib.Dec.{eqb}
 use borrow.Author.Needs.{needs}
 use Rattle.reading.specs.Rows.{readModel}

@@ -1,11 +1,10 @@
 -- `thread_formed` meets its contract: below 1, or at most 4. Assumes nothing.
-use mathlib.Core.Path.{_≡_, sym, ap}
-use mathlib.Core.Bool.{Bool, not, _||_}
+use mathlib.Core.Path.{_≡_}
+use mathlib.Core.Bool.{not}
 use lib.Dec.{ltb, leb}
 use Prim.Native.Nat.{ℕ}
 use Rattle.laws.specs.Bools.{by-cases}
 use borrow.Author.Tests.{lt-ltb, le-ltb, leb-true, leb-false}
-use borrow.Author.Needs.{needs}
 use Rattle.reading.proofs.thread_formed.Statement.{statement}
 use Rattle.reading.proofs.thread_formed.Tie as tie
 

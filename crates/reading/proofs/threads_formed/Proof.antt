@@ -1,7 +1,6 @@
 -- `threads_formed` meets its contract. The invariant: the rows that are left pass exactly if all do. The measure is how many are left. Assumes nothing.
 use Prim.Native.Nat.{ℕ, _-_, _≤_}
 use mathlib.Core.Path.{_≡_, sym, ap, _∙_}
-use mathlib.Core.List.{List}
 use native.Mathlib.Omega.{arith}
 use lib.ListN.{getD}
 use Rattle.laws.specs.Bools.{denied, not-not}

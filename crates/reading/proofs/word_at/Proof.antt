@@ -1,5 +1,5 @@
 -- `word_at` meets its contract: two bytes, low byte first. Assumes nothing.
-use Prim.Native.Nat.{ℕ, suc, _+_, _*_}
+use Prim.Native.Nat.{suc, _+_, _*_}
 use mathlib.Core.Path.{_≡_, ap, ap₂, _∙_}
 use native.Mathlib.Omega.{arith}
 use Rattle.saved.specs.Record.{byte}

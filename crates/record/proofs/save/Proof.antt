@@ -1,6 +1,6 @@
 -- `save` meets its contract: not sound, too short a buffer, or done. Assumes nothing.
 use Prim.Native.Nat.{_<_, _≤_}
-use mathlib.Core.Path.{refl, ap, _∙_, subst}
+use mathlib.Core.Path.{refl, subst}
 use lib.ListN.{length}
 use Rattle.laws.specs.Bools.{denied, not-not}
 use Rattle.record.proofs.Saving.{unsound, short, done-save}

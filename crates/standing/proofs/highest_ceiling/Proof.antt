@@ -22,21 +22,24 @@ sub-m c = search needs
 cast-i : tie.Need-cast-i Inv-loop μ-loop
 cast-i c = search needs
 
-mul-raised : tie.Need-mul-raised Inv-loop μ-loop
-mul-raised c = search needs
+mul-row : tie.Need-mul-row Inv-loop μ-loop
+mul-row c = search needs
 
-array-copy-out-raised : tie.Need-array-copy-out-raised Inv-loop μ-loop
-array-copy-out-raised c = search needs
+array-copy-out-row : tie.Need-array-copy-out-row Inv-loop μ-loop
+array-copy-out-row c = search needs
 
-raised-requires : tie.Need-raised-requires Inv-loop μ-loop
-raised-requires c κs = search needs
+ceiling-for-requires : tie.Need-ceiling-for-requires Inv-loop μ-loop
+ceiling-for-requires c κs = search needs
+
+larger-requires : tie.Need-larger-requires Inv-loop μ-loop
+larger-requires c κs = search needs
 
 loop-less : tie.Need-loop-less Inv-loop μ-loop
 loop-less c = search needs
 
 loop-again : tie.Need-loop-again Inv-loop μ-loop
 unfolding ceilingIn
-loop-again c = rw (c .raised .ensures) (highest-on _ _ _ _ (c .before .before .loop-test .taken) (c .before .before .before .loop .inv))
+loop-again c = rw (c .larger .ensures, c .before .ceiling-for .ensures) (highest-on _ _ _ _ (c .before .before .before .loop-test .taken) (c .before .before .before .before .loop .inv))
 
 returns : tie.Need-returns Inv-loop μ-loop
 unfolding ceilingIn
@@ -51,9 +54,10 @@ highest-ceiling-spec =
     loop-holds
     sub-m
     cast-i
-    mul-raised
-    array-copy-out-raised
-    raised-requires
+    mul-row
+    array-copy-out-row
+    ceiling-for-requires
+    larger-requires
     loop-less
     loop-again
     returns)

@@ -1,10 +1,9 @@
 -- `collect` meets its contract. The invariant: so many bytes of the text stand after the used part. The measure is how many are left. Assumes nothing.
-use Prim.Native.Nat.{_≤_, _-_, _+_}
-use mathlib.Core.Path.{_≡_, refl, sym, ap, _∙_}
+use Prim.Native.Nat.{_≤_, _-_}
+use mathlib.Core.Path.{_≡_, refl, _∙_}
 use native.Mathlib.Omega.{arith}
-use borrow.Author.Needs.{needs}
 use lib.ListN.{length, drop, length-drop, length-set}
-use lib.Seq.{paste, paste-zero, length-paste}
+use lib.Seq.{paste, paste-zero}
 use Rattle.text.proofs.Collecting.{length-mapped, no-room, has-room, past-end, paste-on}
 use Rattle.text.proofs.collect.Statement.{statement}
 use Rattle.text.proofs.collect.Tie as tie

@@ -1,6 +1,6 @@
 -- `put_bytes` meets its contract. The invariant: the bytes that are left, put in front, give what the whole gives. The measure is how many are left. Assumes nothing.
-use Prim.Native.Nat.{_≤_, _-_, suc}
-use mathlib.Core.Path.{_≡_, refl, sym, _∙_, ap}
+use Prim.Native.Nat.{_≤_, _-_}
+use mathlib.Core.Path.{_≡_, sym, _∙_, ap}
 use native.Mathlib.Omega.{arith}
 use borrow.Author.Needs.{needs}
 use lib.ListN.{length, take}

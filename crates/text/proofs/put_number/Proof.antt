@@ -1,5 +1,4 @@
 -- `put_number` meets its contract. The invariant: the digits that are left, put in front, give what the whole gives. The measure is the rest. Assumes nothing.
-use Prim.Native.Nat.{_≤_}
 use mathlib.Core.Path.{_≡_, refl, sym, _∙_}
 use native.Mathlib.Omega.{arith}
 use borrow.Author.Needs.{needs}

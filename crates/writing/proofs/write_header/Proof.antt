@@ -1,6 +1,6 @@
 -- `write_header` meets its contract: six pairs of words, one after the other. Assumes nothing.
 use mathlib.Core.Path.{ap, _∙_}
-use mathlib.Core.List.{List, _++_}
+use mathlib.Core.List.{_++_}
 use Prim.Native.Nat.{ℕ}
 use lib.Seq.{sets}
 use Rattle.saved.specs.Record.{word}
