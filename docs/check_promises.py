@@ -3,9 +3,9 @@
     check_promises.py            says what is missing; last line `N passed, M failed`
     check_promises.py --table    writes the table of public functions as the tree has it
 
-Each name in backticks in the first table has to exist in the crate that is named before it: a definition in specs/, a theorem in proofs/, a
-function in src/, a wrong program in must-fail/, or a file. Each public function of each library has to stand in the second table with its promise as
-the code has it and with two wrong programs that the promise rules out, and no other function. Functions of the library `files` speak to the system, which decides their result where no equation is promised.
+Each name in backticks in the tables before the last has to exist in the crate that is named before it: a definition in specs/, a theorem in proofs/, a
+function in src/, a wrong program in must-fail/, or a file. Each public function of each library has to stand in the last table with its promise as
+the code has it and with at least two wrong programs that the promise rules out, and no other function. Functions of the library `files` speak to the system, which decides their result where no equation is promised.
 """
 
 from __future__ import annotations
@@ -15,9 +15,8 @@ import sys
 from pathlib import Path
 from typing import Dict, Iterator, List, Tuple
 
-from edits import Wrong, wrongs
+from edits import TOP, Wrong, wrongs
 
-TOP = Path(__file__).resolve().parent.parent
 PAGE = TOP / "docs" / "PROMISES.md"
 HEADING = "| Function | Promise | One result by | Rules out |"
 EXCEPTIONS = {"reading::open": "`form`; the page is promised for right form alone, and load reads it then only"}
@@ -46,7 +45,7 @@ def texts(crate: str, folder: str, ending: str) -> str:
 
 
 def is_there(crate: str, name: str) -> bool:
-    """Whether a crate has a definition, a theorem, a function or an edit of this name."""
+    """Whether a crate has a definition, a theorem, a function, a wrong program or a file of this name."""
     if any(wrong.crate == crate and wrong.name == name for wrong in WRONGS):
         return True
     if (TOP / "crates" / crate / "specs" / (name + ".antt")).is_file():
@@ -71,7 +70,7 @@ def names_in(cell: str, known: List[str]) -> Iterator[Tuple[str, str]]:
 
 
 def check_names(text: str) -> List[Tuple[str, bool]]:
-    """Each name of the first table, and whether it is there."""
+    """Each name of the tables before the last, and whether it is there."""
     known = crates()
     results: List[Tuple[str, bool]] = []
     for line in text.split(HEADING)[0].splitlines():

@@ -46,11 +46,11 @@ def lines_of(source: Path, function: str) -> range:
     return range(first, first and sys.maxsize)
 
 
-def is_of(room: Path, function: str, file: str, line: int) -> bool:
+def is_of(room: Path, function: str, place: str, line: int) -> bool:
     """Whether an error stands in a function's proof or in its text."""
-    if file.startswith(f"{room}/proofs/{function.replace('::', '/')}/"):
+    if place.startswith(f"proofs/{function.replace('::', '/')}/"):
         return True
-    return file.startswith(f"{room}/src/") and line in lines_of(Path(file), function)
+    return place.startswith("src/") and line in lines_of(room / place, function)
 
 
 def judge(wrong: Wrong) -> Tuple[str, bool]:
@@ -60,9 +60,9 @@ def judge(wrong: Wrong) -> Tuple[str, bool]:
     if not (room / ".log").is_file():
         return f"{title}: not tried", False
     for file, line, words in errors((room / ".log").read_text(encoding="utf-8")):
-        if not wrong.function or is_of(room, wrong.function, file, line):
+        place = file.split(f"/must-fail/{wrong.crate}/{wrong.edit}/")[-1]
+        if not wrong.function or is_of(room, wrong.function, place, line):
             good = not NO_FACT.search(words)
-            place = file.replace(f"{room}/", "")
             return f"{title}: {place}:{line}: {words[:120]}" + ("" if good else "  <- not at a fact"), good
     return f"{title}: no error there", False
 

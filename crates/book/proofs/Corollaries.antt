@@ -1,6 +1,5 @@
 -- What follows at all times: no ready thread stands above the running one; every thread is in exactly one place; a waiter on a condition
--- variable that becomes ready owns its mutex; a timer set for n ticks expires at
--- the nth accepted tick after its start unless it is stopped first.
+-- variable that becomes ready owns its mutex; a timer set for n ticks expires at the nth accepted tick after its start unless it is stopped first.
 -- Assumes nothing.
 use Prim.Native.Nat.{ℕ, _+_, _-_, _<_, _≤_}
 use mathlib.Core.Path.{_≡_, refl, sym, ap, ap₂, _∙_, subst}
@@ -219,7 +218,7 @@ ticked-fewer : (x : Timer) → 1 < x .left → ticked x ≡ fewer 1 x
 unfolding ticked
 ticked-fewer x l = ap (λ y. cond y (afterDue (x .state) x) (fewer 1 x)) (ap (λ y. goes (x .state) && y) (ne-eqb (x .left) 1 (λ z. omega arith)) ∙ and-false (goes (x .state)))
 
--- a timer with r ticks left has r fewer for each accepted tick, until it is due
+-- a timer with r ticks left has one fewer for each accepted tick, until it is due
 pub timer-runs-on : (calls : List Call) (s : State) → sound s ≡ true → (i : ℕ) → i < length (s .timers) → goes (timer (s .timers) i .state) ≡ true → NeverStops i calls
     → ticksDone s calls < timer (s .timers) i .left → timer (afterCalls s calls .timers) i ≡ fewer (ticksDone s calls) (timer (s .timers) i)
 unfolding afterCalls ticksDone

@@ -1,4 +1,4 @@
--- A broadcast signals as often as there are threads. More signals do nothing: each takes one waiter away, and then none is left.
+-- A broadcast signals as often as there are threads: each signal takes one waiter away, then none is left, and more signals do nothing.
 -- Assumes nothing.
 use Prim.Native.Nat.{ℕ, zero, suc, _+_, _-_, _<_, _≤_}
 use mathlib.Core.Path.{_≡_, refl, sym, ap, _∙_, subst}
@@ -109,8 +109,26 @@ module _ (c : ℕ) where
           ap (λ k. signals k b c) more ∙ one-then (n + m) b
           ∙ ap (then-others (signal b c)) (r (signal b c .book) (subst (λ f. waiting (wake b c f .book) ≤ n) (sym e) fewer)) ∙ sym (one-then n b)
 
+  -- after as many signals as there are waiters nobody waits there
+  none-left : (n : ℕ) (b : Book) → waiting b ≤ n → highestEarliest (signals n b c .book) (onCondition c) ≡ nobody
+  unfolding signals
+  none-left zero b h = none-found b (onCondition c) (length (b .threads)) (many-zero (length (b .threads)) (standsAt b (onCondition c)) h)
+  none-left (suc n) b h = go (highestEarliest b (onCondition c)) refl (none-left n)
+    where
+      go : (f : Found) → highestEarliest b (onCondition c) ≡ f → ((l : Book) → waiting l ≤ n → highestEarliest (signals n l c .book) (onCondition c) ≡ nobody)
+          → highestEarliest (signals n (signal b c .book) c .book) (onCondition c) ≡ nobody
+      go nobody e r = ap (λ (o : Outcome). highestEarliest (o .book) (onCondition c)) (no-more (suc n) b e) ∙ e
+      go (somebody t) e r =
+          let x = found-there b (onCondition c) t e in
+          let fewer : waiting (wake b c (somebody t) .book) ≤ n = omega (arith, one-less b (wake b c (somebody t) .book) t (leaves-wake b t (x .1)) (x .0) (x .1), h) in
+          r (signal b c .book) (subst (λ f. waiting (wake b c f .book) ≤ n) (sym e) fewer)
+
 -- as many as there are threads do what 32 do
 pub signals-enough : (b : Book) (c : ℕ) → length (b .threads) ≤ 32 → signals 32 b c ≡ signals (length (b .threads)) b c
 signals-enough b c l =
     let e : 32 ≡ length (b .threads) + (32 - length (b .threads)) = omega arith in
     ap (λ n. signals n b c) e ∙ enough c (length (b .threads)) (32 - length (b .threads)) b (many-most (length (b .threads)) (standsAt b (onCondition c)))
+
+-- a broadcast signals until none waits
+pub broadcast-leaves-none : (b : Book) (c : ℕ) → highestEarliest (signals (length (b .threads)) b c .book) (onCondition c) ≡ nobody
+broadcast-leaves-none b c = none-left c (length (b .threads)) b (many-most (length (b .threads)) (standsAt b (onCondition c)))

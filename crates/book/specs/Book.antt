@@ -36,38 +36,49 @@ pub record Book : Type 0 where
 
 -- ---- what stands at an id; outside a table a row that is never used
 
+-- outside the table
 abbrev pub noThread : Thread
 noThread = record { base = 0; stands = running; mark = pos 0 }
 
+-- outside the table
 abbrev pub noMutex : Mutex
 noMutex = record { ceiling = 0; owner = 255; count = 0 }
 
+-- thread t
 abbrev pub thread : Book → ℕ → Thread
 thread b t = getD (b .threads) t noThread
 
+-- mutex m
 abbrev pub mutex : Book → ℕ → Mutex
 mutex b m = getD (b .mutexes) m noMutex
 
+-- the mutex that condition variable c is tied to
 abbrev pub tied : Book → ℕ → ℕ
 tied b c = getD (b .ties) c 255
 
+-- a stopped timer
 abbrev pub stoppedTimer : Timer
 stoppedTimer = record { state = stopped; condition = 255; length = 0; due = 0 }
 
+-- timer i
 abbrev pub timer : Book → ℕ → Timer
 timer b i = getD (b .timers) i stoppedTimer
 
 -- ---- the book with one thing changed
 
+-- the book with other threads
 abbrev pub withThreads : Book → List Thread → Book
 withThreads b x = record { started = b .started; runner = b .runner; threads = x; mutexes = b .mutexes; ties = b .ties; count = b .count; timers = b .timers }
 
+-- with other mutexes
 abbrev pub withMutexes : Book → List Mutex → Book
 withMutexes b x = record { started = b .started; runner = b .runner; threads = b .threads; mutexes = x; ties = b .ties; count = b .count; timers = b .timers }
 
+-- with other ties
 abbrev pub withTies : Book → List ℕ → Book
 withTies b x = record { started = b .started; runner = b .runner; threads = b .threads; mutexes = b .mutexes; ties = x; count = b .count; timers = b .timers }
 
+-- with other timers
 abbrev pub withTimers : Book → List Timer → Book
 withTimers b x = record { started = b .started; runner = b .runner; threads = b .threads; mutexes = b .mutexes; ties = b .ties; count = b .count; timers = x }
 

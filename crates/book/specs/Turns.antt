@@ -243,14 +243,16 @@ unfoldable pub turnOf : Book → Decoded → Turn
 turnOf b (Taken call) = turn b call
 turnOf b WrongForm = answered WrongRow nothing b
 
+-- a row of 8 bytes
 abbrev pub turnRow : Book → List ℕ → Turn
 turnRow b row = turnOf b (decoded row)
 
--- the answers to any number of rows, and the book after them
+-- the answers to any number of rows
 unfoldable pub bookAnswers : Book → List (List ℕ) → List Answer
 bookAnswers b [] = []
 bookAnswers b (row ∷ rows) = turnRow b row .answer ∷ bookAnswers (turnRow b row .book) rows
 
+-- the book after them
 unfoldable pub bookFinal : Book → List (List ℕ) → Book
 bookFinal b [] = b
 bookFinal b (row ∷ rows) = bookFinal (turnRow b row .book) rows

@@ -1,4 +1,5 @@
--- One turn of each loop that builds an engine. Assumes nothing.
+-- One turn of each loop that builds an engine.
+-- Assumes nothing.
 use Prim.Native.Nat.{ℕ, suc, _+_, _-_, _<_, _≤_, min}
 use mathlib.Core.Path.{_≡_, refl, sym, ap, _∙_}
 use mathlib.Core.Bool.{cond}

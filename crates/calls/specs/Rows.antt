@@ -25,12 +25,15 @@ vOf row = byte row 4 + byte row 5 * 256 + byte row 6 * 65536 + byte row 7 * 1677
 abbrev pub namesNone : Named
 namesNone = record { a = false; b = false; kind = false; v = false }
 
+-- a
 abbrev pub namesA : Named
 namesA = record { a = true; b = false; kind = false; v = false }
 
+-- a and b
 abbrev pub namesAB : Named
 namesAB = record { a = true; b = true; kind = false; v = false }
 
+-- all four
 abbrev pub namesAll : Named
 namesAll = record { a = true; b = true; kind = true; v = true }
 

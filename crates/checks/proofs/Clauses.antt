@@ -19,7 +19,7 @@ use Rattle.pages.proofs.Counts.{many-same}
 use Rattle.scheduler.specs.declared.Mutex.{Mutex}
 use Rattle.page.specs.declared.Page.{Page}
 use Rattle.standing.specs.declared.Known.{Known}
-use Rattle.standing.specs.Models.{standsOf, freeIn, nobodyIn, topIn}
+use Rattle.standing.specs.Models.{standsOf, ownsNothingIn, nobodyIn, topIn}
 use Rattle.places.specs.Models.{baseFits, runsFits, notAbove, existsIn, besideIn, smallerAt, equalAt, countedIn, placeFits, idleFits, runnerFits}
 use Rattle.objects.specs.Models.{tieAt, mutexWaiterFits, mutexWaitersFit, ownerFits, ceilingOf, conditionWaiterFits, conditionWaitersFit, tieFits, conditionFits, conditionsFit}
 use Rattle.checks.specs.Models.{runsOn, knownOf}
@@ -202,7 +202,7 @@ module _ (p : Page) (s : Told.Small p) where
     unfolding conditionWaitersFit conditionWaiterFits knownOf
     waiting-sound = Told.over-threads p _ _ (λ t b.
         ap₂ (λ a f. implies a (f && leb (thread k t .base) (mutex k (tied k c) .ceiling))) (Told.at-told p (onCondition c) t b) (Told.free-told p t)
-        ∙ ap₂ (λ n e. implies (same (standsOf (row p t)) (onCondition c)) (freeIn (p .mutexrows) (p .mutexes) t && leb n e))
+        ∙ ap₂ (λ n e. implies (same (standsOf (row p t)) (onCondition c)) (ownsNothingIn (p .mutexrows) (p .mutexes) t && leb n e))
         (Told.base-told p t b)
         (ceiling-is (tied k c) ∙ ap (ceilingOf (p .mutexrows) (p .mutexes)) (Told.tied-told p c h)))
 

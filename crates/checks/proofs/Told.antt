@@ -20,7 +20,7 @@ use Rattle.pages.proofs.Rows.{thread-of}
 use Rattle.page.specs.declared.Page.{Page}
 use Rattle.page.specs.Says.{threadSaid, mutexSaid, timerSaid, noThreadRow, noMutexRow, noTimerRow, said}
 use Rattle.scheduler.specs.Models.{ceilingFor}
-use Rattle.standing.specs.Models.{rowAt, mutexAt, priorityAt, standsOf, ceilingIn, prioritiesIn, freeIn, threadsIn, topIn}
+use Rattle.standing.specs.Models.{rowAt, mutexAt, priorityAt, standsOf, ceilingIn, prioritiesIn, ownsNothingIn, threadsIn, topIn}
 use Rattle.objects.specs.Models.{tieAt}
 use Rattle.checks.specs.Models.{timerAt}
 use Rattle.checks.proofs.Tests.{each-same, rows-each, map-tabulate, ceiling-highest, owned-none}
@@ -181,8 +181,8 @@ module _ (p : Page) where
       ∙ sym (priority-told t h)
 
   -- whether a thread owns nothing
-  pub free-told : (t : ℕ) → eqb (owned (rowsTold .mutexes) t) 0 ≡ freeIn (p .mutexrows) (p .mutexes) t
-  unfolding freeIn
+  pub free-told : (t : ℕ) → eqb (owned (rowsTold .mutexes) t) 0 ≡ ownsNothingIn (p .mutexrows) (p .mutexes) t
+  unfolding ownsNothingIn
   free-told t = owned-none (rowsTold .mutexes) t ∙ ap (eachRow (λ x. not (eqb (x .owner) t))) mutexes-told ∙ rows-each _ (p .mutexes) _
 
   -- ---- the running thread

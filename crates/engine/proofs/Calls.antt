@@ -34,7 +34,7 @@ use Rattle.soundness.proofs.Rows.{length-stand}
 use Rattle.soundness.proofs.Creating.{getD-more, length-more, withThread}
 use Rattle.soundness.proofs.Keeping.{passed, kept, going, effected}
 use Rattle.meaning.specs.Stands.{threadsOf, schedulerOf}
-use Rattle.meaning.proofs.Calls.{acquire-stands, release-stands, wait-stands-8}
+use Rattle.meaning.proofs.Calls.{acquire-stands, release-stands, waited-stands}
 use Rattle.meaning.proofs.Signals.{signal-stands, broadcast-stands, run-stands}
 use Rattle.meaning.proofs.Creating.{create-stands, create-mutex-stands, create-condition-stands}
 use Rattle.meaning.proofs.Sizes.{Sizes, sizes-first, sizes-acquired, sizes-released, sizes-waited, sizes-signalled, sizes-times}
@@ -105,7 +105,7 @@ module _ {s : State} (o : Sound s) where
     unfolding tests
     waits-so =
         let x = passed s (Wait c m) z in
-        wait-stands-8 (kept o) (going o (started-so (x .0))) c m
+        waited-stands (kept o) (going o (started-so (x .0))) c m
         (leb-false (length (k .ties)) c (nor-left (leb (length (k .ties)) c) (leb (length (k .mutexes)) m) (x .1 .0)))
         (leb-false (length (k .mutexes)) m (nor-right (leb (length (k .ties)) c) (leb (length (k .mutexes)) m) (x .1 .0)))
         (eqb-true (mutex k m .owner) (k .runner) (not-false (eqb (mutex k m .owner) (k .runner)) (x .1 .1 .1 .0)))

@@ -29,6 +29,7 @@ spokeAndTurns w = getD (w .spoke) 0 0 ∷ getD (w .turns) 0 0 ∷ []
 abbrev pub countAndDue : Wheel → List ℕ
 countAndDue w = tickedIn w .wheel .position ∷ idsOf (tickedIn w .due)
 
+-- the table
 unfoldable pub marked : List Example
 marked =
     -- E1 the boot record; it loads; 27 bytes of it: 15; its thread 0 with base 1: 1

@@ -22,6 +22,7 @@ bothWait = CreateThread 2 ∷ CreateThread 2 ∷ CreateMutex 6 ∷ CreateConditi
 unfoldable pub equalsSliced : List Call
 equalsSliced = CreateThread 4 ∷ CreateThread 4 ∷ CreateMutex 4 ∷ Start ∷ Acquire 0 ∷ Tick ∷ []
 
+-- the table
 unfoldable pub mistakes : List Example
 mistakes =
     -- release puts back the priority remembered at acquire: it would be 3 after the first release, and 5 after both

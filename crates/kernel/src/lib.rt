@@ -57,7 +57,7 @@ impl Kernel {
     }
 
     // A refusal of a kernel that is not sound: given and running are 255, and nothing changes.
-    fn refused(self, number: u8) -> Stepped
+    fn refused(mut self, number: u8) -> Stepped
         ensures { λ r. ⌜ r ≡ refusal self number ⌝ }
     {
         let answer = Answer {
@@ -91,7 +91,7 @@ impl Kernel {
     }
 
     // A row of wrong form or cut short: 17, and the thread that runs on; 255 if the kernel is not sound.
-    pub fn wrong_row(self) -> Stepped
+    pub fn wrong_row(mut self) -> Stepped
         ensures { λ r. ⌜ Steps self WrongForm r ⌝ }
     {
         let sound = self.is_sound();

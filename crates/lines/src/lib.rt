@@ -118,8 +118,8 @@ pub fn answer_part(engine: Engine, last: u64, bytes: &[u8], output: &mut [u8]) -
     answer_all(engine, begun, bytes, output)
 }
 
-// The text of the bytes held of one read, in a buffer that always has room for it: 8,192 bytes are 1,024 rows, and the heading and their lines take at
-// most 49,200 bytes. The last promise is what lending the used bytes asks.
+// The text of the bytes held of one read, in a buffer that always has room for it: 8,192 bytes are 1,024 rows, and the heading and their lines take,
+// with one line more, at most 49,248 bytes. The last promise is what lending the used bytes asks.
 pub fn answer_block(
     engine: Engine,
     last: u64,

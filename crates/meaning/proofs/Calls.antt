@@ -1,4 +1,5 @@
--- What the scheduler's functions do to the value that describes a scheduler is what document 01's calls do: mutexes.
+-- What the scheduler's functions do to the value that describes a scheduler is what document 01's calls do: mutexes, and waiting on a
+-- condition variable.
 -- Assumes nothing.
 use Prim.Native.Nat.{ℕ, _+_, _-_, _%_, _<_, _≤_}
 use mathlib.Core.Path.{_≡_, refl, ap, _∙_, subst}
@@ -213,9 +214,9 @@ tie-stands h c m there short = unfold schedulerOf in (ap (λ y. record {
 }) (tie-put (h .rows) c m (omega arith) there) ∙ (unfold threadsOf priority tie in refl))
 
 module _ {h : Scheduler} (o : Kept h) (g : Going (h .rows)) (c m : ℕ) (there : c < length (h .rows .ties)) (real : m < length (h .rows .mutexes)) (mine : mutex (h .rows) m .owner ≡ h .rows .runner) where
-  pub wait-stands-8 : waitModel (schedulerOf h) c m ≡ schedulerOf (waited h c m)
+  pub waited-stands : waitModel (schedulerOf h) c m ≡ schedulerOf (waited h c m)
   unfolding waitModel waited
-  wait-stands-8 = ap (λ y. waitOnModel (models.withTie y c m) (schedulerOf h .running) c) (release-stands o g m real mine)
+  waited-stands = ap (λ y. waitOnModel (models.withTie y c m) (schedulerOf h .running) c) (release-stands o g m real mine)
       ∙ ap (λ y. waitOnModel y (schedulerOf h .running) c) (tie-stands (released h m) c m still (l .kept .facts .few-ties))
       ∙ (unfold schedulerOf in joins)
     where

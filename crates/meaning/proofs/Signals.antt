@@ -1,5 +1,5 @@
--- What the scheduler's functions do to the value that describes a scheduler is what document 01's calls do: signals, new threads and mutexes,
--- and the choice of the next thread.
+-- What the scheduler's functions do to the value that describes a scheduler is what document 01's calls do: signals, and the
+-- choice of the next thread.
 -- Assumes nothing.
 use Prim.Native.Nat.{ℕ, zero, suc, _+_, _-_, _%_, _<_, _≤_}
 use mathlib.Core.Path.{_≡_, refl, sym, ap, ap₂, _∙_}

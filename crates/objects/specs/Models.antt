@@ -12,7 +12,7 @@ use Rattle.rules.specs.Sound.{each, implies}
 use Rattle.scheduler.specs.declared.Mutex.{Mutex}
 use Rattle.page.specs.declared.ThreadRow.{ThreadRow}
 use Rattle.standing.specs.declared.Known.{Known}
-use Rattle.standing.specs.Models.{rowAt, mutexAt, priorityAt, standsOf, freeIn, anyoneIn}
+use Rattle.standing.specs.Models.{rowAt, mutexAt, priorityAt, standsOf, ownsNothingIn, anyoneIn}
 
 -- ---- the rows of the mutexes
 
@@ -58,7 +58,7 @@ ceilingOf mutexes n m = cond (ltb m n) (mutexAt mutexes m .ceiling) 0
 
 -- a waiter on condition variable c owns nothing and has base not above the ceiling
 unfoldable pub conditionWaiterFits : List Mutex → ℕ → ℕ → ℕ → ℕ → ThreadRow → Bool
-conditionWaiterFits mutexes n c ceiling t row = implies (same (standsOf row) (onCondition c)) (freeIn mutexes n t && leb (row .base) ceiling)
+conditionWaiterFits mutexes n c ceiling t row = implies (same (standsOf row) (onCondition c)) (ownsNothingIn mutexes n t && leb (row .base) ceiling)
 
 -- if thread t is one
 abbrev pub conditionWaiterAt : List ThreadRow → List Mutex → Known → ℕ → ℕ → ℕ → Bool

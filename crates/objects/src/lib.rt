@@ -22,7 +22,7 @@ fn mutex_waiter_fits(m: u8, row: Mutex, t: u8, other: ThreadRow, its: u8) -> boo
     )
 }
 
-// That test of each thread.
+// The test of a waiter for mutex m, of each thread.
 fn mutex_waiters_fit(rows: [ThreadRow; 32], priorities: [u8; 32], n: u8, m: u8, row: Mutex) -> bool
     ensures { λ r. ⌜ r ≡ mutexWaitersFit rows priorities n m row ⌝ }
 {
@@ -63,7 +63,7 @@ fn mutex_fits(rows: [ThreadRow; 32], priorities: [u8; 32], known: Known, m: u8, 
     both(ceiling, both(owner, both(waiters, rest)))
 }
 
-// Of each mutex.
+// The tests of each mutex.
 pub fn mutexes_fit(
     mutexes: [Mutex; 16],
     rows: [ThreadRow; 32],
@@ -113,7 +113,7 @@ fn condition_waiter_fits(
     both(owns_nothing(mutexes, n, t), row.base <= ceiling)
 }
 
-// That test of each thread.
+// The test of a waiter on condition variable c, of each thread.
 fn condition_waiters_fit(
     rows: [ThreadRow; 32],
     mutexes: [Mutex; 16],
@@ -158,7 +158,7 @@ fn condition_fits(rows: [ThreadRow; 32], mutexes: [Mutex; 16], known: Known, c: 
     )
 }
 
-// Of each condition variable.
+// The tests of each condition variable.
 pub fn conditions_fit(
     ties: [u8; 16],
     rows: [ThreadRow; 32],

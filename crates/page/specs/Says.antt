@@ -80,5 +80,5 @@ pageFor p = record {
 }
 
 -- no row at all
-abbrev pub nothing : rules.Page
-nothing = record { started = false; count = 0; threads = []; mutexes = []; ties = []; timers = [] }
+abbrev pub emptyPage : rules.Page
+emptyPage = record { started = false; count = 0; threads = []; mutexes = []; ties = []; timers = [] }

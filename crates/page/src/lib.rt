@@ -2,7 +2,7 @@
 use scheduler::Mutex;
 ghost use mathlib.Core.Path.{_≡_};
 ghost use lib.ListN.{getD};
-ghost use Rattle.page.specs.Says.{noThreadRow, noMutexRow, noTimerRow, pageFor, nothing};
+ghost use Rattle.page.specs.Says.{noThreadRow, noMutexRow, noTimerRow, pageFor, emptyPage};
 
 // A thread: its base priority, its state (1 ready, 2 running, 3 mutex, 4 condition variable), the object waited for or 255, and its place in its
 // queue from 0.
@@ -96,7 +96,7 @@ pub fn timer_row(rows: [TimerRow; 32], t: u8) -> TimerRow
 impl Page {
     // The page with no row at all.
     pub fn blank() -> Page
-        ensures { λ r. ⌜ r ≡ pageFor nothing ⌝ }
+        ensures { λ r. ⌜ r ≡ pageFor emptyPage ⌝ }
     {
         let thread = ThreadRow {
             base: 0,

@@ -1,5 +1,5 @@
 -- What the functions on sets of queues and on the threads make of the values that they are handed: the code's promises cite these.
--- An id is taken modulo 32.
+-- An id is taken modulo 32; a thread of 32 or more joins no queue.
 -- Assumes nothing.
 use Prim.Native.Nat.{ℕ, _%_}
 use mathlib.Core.Bool.{Bool, cond, _&&_}
@@ -24,15 +24,19 @@ pub record Ran : Type 0 where
 abbrev pub joined : Queues → ℕ → Linked → Joined
 joined s p l = record { links = l .links; set = withLevelModel s p (l .queue) }
 
+-- thread t arrives at the back of the queue of priority p
 unfoldable pub joinModel : Links → Queues → ℕ → ℕ → Joined
 joinModel k s p t = joined s p (backModel k (levelModel s p) t)
 
+-- at the front
 unfoldable pub joinFrontModel : Links → Queues → ℕ → ℕ → Joined
 joinFrontModel k s p t = joined s p (frontModel k (levelModel s p) t)
 
+-- the first of the queue of priority p leaves
 unfoldable pub partModel : Links → Queues → ℕ → Joined
 partModel k s p = joined s p (leaveModel k (levelModel s p))
 
+-- the first of the highest non-empty queue, with its priority
 unfoldable pub headModel : Queues → Head
 headModel s = record { priority = highestModel s; thread = levelModel s (highestModel s) .first }
 
@@ -40,9 +44,11 @@ headModel s = record { priority = highestModel s; thread = levelModel s (highest
 abbrev pub blank : Thread
 blank = record { base = 0; priority = 0; state = 0; object = 0 }
 
+-- the row of thread t
 abbrev pub rowOf : Threads → ℕ → Thread
 rowOf x t = getD (x .rows) (t % 32) blank
 
+-- with another row of thread t
 abbrev pub withRow : Threads → ℕ → Thread → Threads
 withRow x t r = record { rows = set (x .rows) (t % 32) r; links = x .links; ready = x .ready }
 
@@ -58,9 +64,11 @@ liftModel x t priority = withRow x t (record { base = rowOf x t .base; priority 
 abbrev pub withReady : Threads → Joined → Threads
 withReady x j = record { rows = x .rows; links = j .links; ready = j .set }
 
+-- thread t is ready, at the back of the queue of its priority
 unfoldable pub arriveModel : Threads → ℕ → Threads
 arriveModel x t = standModel (withReady x (joinModel (x .links) (x .ready) (rowOf x t .priority) t)) t 1 255
 
+-- at the front
 unfoldable pub arriveInFrontModel : Threads → ℕ → Threads
 arriveInFrontModel x t = standModel (withReady x (joinFrontModel (x .links) (x .ready) (rowOf x t .priority) t)) t 1 255
 
@@ -80,6 +88,7 @@ leaveModelIn x s p =
     let j = partModel (x .links) s p in
     record { threads = withLinks x (j .links); set = j .set }
 
+-- the threads, and which one runs
 abbrev pub ran : Threads → ℕ → Ran
 ran x t = record { threads = x; running = t }
 
@@ -87,9 +96,11 @@ ran x t = record { threads = x; running = t }
 unfoldable pub runModel : Threads → Head → Ran
 runModel x f = ran (standModel (withReady x (partModel (x .links) (x .ready) (f .priority))) (f .thread) 2 255) (f .thread)
 
+-- the first of the highest ready queue runs, if there is one
 unfoldable pub runFirstModel : Threads → ℕ → Ran
 runFirstModel x running = cond (leb 16 (headModel (x .ready) .priority)) (ran x running) (runModel x (headModel (x .ready)))
 
+-- the next thread is chosen, as after each accepted call
 unfoldable pub chooseNextModel : Threads → ℕ → Bool → Ran
 chooseNextModel x running atTick =
     let own = rowOf x running .priority in

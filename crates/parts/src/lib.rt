@@ -1,6 +1,6 @@
 // The parts of the kernel that threads stand in: a set of queues with the links, and the threads with their links and ready queues; and how a thread
 // becomes ready or waits, which boot and the building of a loaded state need. What the calls do to them stands in `moves` and `owners`, in place.
-// An id of a thread is taken modulo 32, so that every function is total; callers hand in ids below 32.
+// An id of a thread is taken modulo 32, and one of 32 or more joins no queue, so that every function is total; callers hand in ids below 32.
 use queue::Links;
 use queue::Queues;
 ghost use mathlib.Core.Path.{_≡_};

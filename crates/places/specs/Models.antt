@@ -13,7 +13,7 @@ use Rattle.scheduler.specs.declared.Mutex.{Mutex}
 use Rattle.page.specs.declared.ThreadRow.{ThreadRow}
 use Rattle.page.specs.Says.{threadSaid}
 use Rattle.standing.specs.declared.Known.{Known}
-use Rattle.standing.specs.Models.{rowAt, priorityAt, standsOf, freeIn}
+use Rattle.standing.specs.Models.{rowAt, priorityAt, standsOf, ownsNothingIn}
 
 -- ---- the row of a thread
 
@@ -91,7 +91,7 @@ threadsFit rows priorities x = each (x .threads) (threadAt rows priorities x)
 
 -- thread 0 ready or running, owning nothing
 unfoldable pub idleFits : List ThreadRow → List Mutex → ℕ → Bool
-idleFits rows mutexes n = not (waits (standsOf (rowAt rows 0))) && freeIn mutexes n 0
+idleFits rows mutexes n = not (waits (standsOf (rowAt rows 0))) && ownsNothingIn mutexes n 0
 
 -- the runner exists if started, and is none if stopped
 unfoldable pub runnerFits : Known → Bool

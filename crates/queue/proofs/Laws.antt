@@ -1,5 +1,6 @@
 -- What the operations do to the lists that links and queues stand for, over all slots at once: an arrival or a leave changes the list
--- of its slot so, and no other. Assumes nothing.
+-- of its slot so, and no other.
+-- Assumes nothing.
 use Prim.Native.Nat.{ℕ, _+_, _<_, _≤_}
 use mathlib.Core.Path.{_≡_, refl, sym, ap, _∙_}
 use mathlib.Core.Logic.{_≢_}
@@ -11,7 +12,7 @@ use lib.Seq.{getD-set-same, set-getD}
 use lib.Dec.{ltb}
 use borrow.Author.Tests.{lt-ltb}
 use Rattle.laws.specs.Lists.{at, firstOr, lastOr, rest, occupied, one, count, counts, by-equal, by-below, one-same, one-other, count-append, counts-set, count-at, last-back, last-in, getD-tabulate, tabulate-same, set-tabulate}
-use Rattle.queue.specs.Models.{linked, firstModel, backModel, frontModel, leaveModel}
+use Rattle.queue.specs.Models.{linked, backModel, frontModel, leaveModel}
 use Rattle.queue.specs.Stands.{Fresh, endsOf, after, linkOf, linksOf, linkedOf}
 use Rattle.queue.proofs.Linking.{after-first, after-rest, after-back-other, after-back-last, after-back-new, link-none, link-at, link-set}
 
@@ -151,7 +152,7 @@ leave-at ls s (x ∷ l) p f h =
     go [] k e = λ i. linked (e i) 255 255
     go (y ∷ l) k e = rw (lt-ltb y 32 (k y (omega (arith, one-same y)))) (λ i. linked (e i) y (lastOr y l))
 
--- ---- the three laws as the kernel cites them
+-- ---- the three laws at any slot
 
 module _ (ls : List (List ℕ)) (s : ℕ) (fresh : Fresh ls) (inside : s < length ls) where
   -- an arrival at the back changes the list of slot s so, and no other
@@ -170,7 +171,7 @@ module _ (ls : List (List ℕ)) (s : ℕ) (fresh : Fresh ls) (inside : s < lengt
 -- ---- whether there is a first
 
 -- a queue of threads has a first below 32 exactly where its list is not empty
-pub occupied-of : (l : List ℕ) → ((u : ℕ) → 32 ≤ u → count u l ≡ 0) → ltb (firstModel (endsOf l)) 32 ≡ occupied l
+pub occupied-of : (l : List ℕ) → ((u : ℕ) → 32 ≤ u → count u l ≡ 0) → ltb (endsOf l .first) 32 ≡ occupied l
 unfolding endsOf
 occupied-of [] h = refl
 occupied-of (x ∷ l) h =

@@ -1,4 +1,5 @@
--- How the link of a thread goes with the lists: what follows it in its own list, whatever the others hold. Assumes nothing.
+-- How the link of a thread goes with the lists: what follows it in its own list, whatever the others hold.
+-- Assumes nothing.
 use Prim.Native.Nat.{ℕ, zero, suc, _+_, _<_, _≤_}
 use mathlib.Core.Path.{_≡_, refl, ap, _∙_}
 use mathlib.Core.Logic.{_≢_}

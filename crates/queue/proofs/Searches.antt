@@ -1,4 +1,5 @@
--- One turn of the search from above, and of the walk along the links. Assumes nothing.
+-- One turn of the search from above, and of the walk along the links.
+-- Assumes nothing.
 use Prim.Native.Nat.{ℕ, zero, suc, _≤_, _<_}
 use mathlib.Core.Path.{_≡_, refl}
 use mathlib.Core.Bool.{Bool, true, false}

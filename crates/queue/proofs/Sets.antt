@@ -1,4 +1,5 @@
--- Sets of queues: a list for each priority, the highest that is not empty, and many sets side by side. Assumes nothing.
+-- Sets of queues: a list for each priority, the highest that is not empty, and many sets side by side.
+-- Assumes nothing.
 use Prim.Native.Nat.{ℕ, zero, suc, _+_, _*_, _<_, _≤_}
 use mathlib.Core.Path.{_≡_, refl, sym, ap, ap₂, _∙_}
 use mathlib.Core.Logic.{_≢_, inl, inr, ⊎-elim}
@@ -70,7 +71,7 @@ highest-unique holds none n r h = same r (highestBelow holds none n) h (highest-
     same r q (inr a) (inl b) = no-way (holds q) (b .1) (a .1 q (b .0))
     same r q (inr a) (inr b) = a .0 ∙ sym (b .0)
 
--- so it meets the promise of the code's search
+-- so whatever is shown to be the highest is what the code's search finds
 pub highest-met : (s : Queues) (r : ℕ) → IsHighest (hasFirst s) 16 16 r → r ≡ highestModel s
 unfolding highestModel
 highest-met s r h = highest-unique (hasFirst s) 16 16 r h

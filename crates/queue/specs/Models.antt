@@ -28,10 +28,6 @@ emptyQueues = record { levels = replicate 16 emptyQueue }
 abbrev pub linked : List ℕ → ℕ → ℕ → Linked
 linked next first last = record { links = record { next = next }; queue = record { first = first; last = last } }
 
--- the first of a queue, 255 for none
-abbrev pub firstModel : Queue → ℕ
-firstModel q = q .first
-
 -- t arrives at the back: the last is linked to t, which is the last now, and the first too where the queue was empty
 unfoldable pub backModel : Links → Queue → ℕ → Linked
 backModel k q t =

@@ -1,5 +1,5 @@
 // Queues of threads, linked by index: each queue has its first and its last thread, 255 for none, and all threads together
-// have one array of links. An operation takes the links and one queue and hands both back, so that no caller copies all queues to touch one.
+// have one array of links. An operation takes the links and one queue and hands both back.
 // A thread's id or an end of 32 or more is no thread: nothing is stored there.
 ghost use mathlib.Core.Path.{_≡_};
 ghost use Rattle.queue.specs.Models.{emptyQueue, emptyLinks, emptyQueues, backModel, levelModel, withLevelModel};

@@ -106,11 +106,12 @@ leavers (suc n) h c = leaver (firstAt h (onCondition c)) + leavers n (signalled 
 
 -- ---- 11 to 13: timers and the tick
 
--- kind 0 one-shot or 1 periodic
+-- the timer state of a kind
 abbrev pub stateOf : Kind → TimerState
 stateOf OneShot = oneShot
 stateOf Periodic = periodic
 
+-- whether a timer of this state runs
 abbrev pub goes : TimerState → Bool
 goes stopped = false
 goes oneShot = true
@@ -146,9 +147,11 @@ nextCount n = (n + 1) % 4294967296
 
 -- ---- the thirteen calls
 
+-- the state with another scheduler
 abbrev pub withScheduler : State → Scheduler → State
 withScheduler s h = record { scheduler = h; count = s .count; timers = s .timers }
 
+-- the state with other timers
 abbrev pub withTimers : State → List Timer → State
 withTimers s x = record { scheduler = s .scheduler; count = s .count; timers = x }
 

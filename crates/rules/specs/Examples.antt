@@ -60,7 +60,7 @@ alone b = CreateThread b ∷ CreateMutex 5 ∷ CreateMutex 9 ∷ CreateCondition
 unfoldable pub startOf : ℕ → Call
 startOf v = StartTimer 0 0 OneShot (record { 0 = v })
 
--- thread 1 runs and n others are ready behind it, all of base 4
+-- thread 1 runs and two others are ready behind it, all of base 4
 unfoldable pub three : List Call
 three = CreateThread 4 ∷ CreateThread 4 ∷ CreateThread 4 ∷ Start ∷ []
 
@@ -79,6 +79,7 @@ atCount n s = record { scheduler = s .scheduler; count = n; timers = s .timers }
 
 -- ---- the table
 
+-- what is shown and what is to be seen
 unfoldable pub table : List Example
 table =
     -- E2 start at boot

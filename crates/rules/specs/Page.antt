@@ -41,6 +41,7 @@ pub record Page : Type 0 where
 abbrev pub noRow : ThreadRow
 noRow = record { base = 0; state = 2; object = 255; place = 0 }
 
+-- the row of thread t
 abbrev pub threadRow : Page → ℕ → ThreadRow
 threadRow p t = getD (p .threads) t noRow
 
@@ -54,9 +55,11 @@ whereOf state object = cond (eqb state 1) ready (cond (eqb state 2) running (con
 unfoldable pub timerStateOf : ℕ → TimerState
 timerStateOf state = cond (eqb state 0) stopped (cond (eqb state 1) oneShot periodic)
 
+-- the thread of a row
 abbrev pub threadOf : ThreadRow → Thread
 threadOf x = record { base = x .base; stands = whereOf (x .state) (x .object) }
 
+-- the timer of a row
 abbrev pub timerOf : TimerRow → Timer
 timerOf x = record { state = timerStateOf (x .state); condition = x .condition; length = x .length; left = x .left }
 
@@ -77,6 +80,7 @@ inQueue k w q t = at k w t && eqb (priority k t) q
 unfoldable pub queueOf : Page → Where → ℕ → List ℕ
 queueOf p w q = flatten (tabulate (length (p .threads)) (λ i. among (length (p .threads)) (λ t. inQueue (rowsOf p) w q t && eqb (threadRow p t .place) i)))
 
+-- one queue for each of the 16 priorities
 unfoldable pub setOf : Page → Where → QueueSet
 setOf p w = tabulate 16 (queueOf p w)
 
@@ -130,6 +134,7 @@ timerFormed x = leb (x .state) 2
 
 -- a test of each row of a table
 module _ {A : Type 0} where
+  -- a test of each row of a table
   unfoldable pub eachRow : (A → Bool) → List A → Bool
   eachRow f [] = true
   eachRow f (x ∷ xs) = f x && eachRow f xs
@@ -144,18 +149,21 @@ pageSound p = all (clauses (rowsOf p) (p .count) (map timerOf (p .timers))) && e
 
 -- ---- the page of a state
 
+-- 1 ready, 2 running, 3 mutex, 4 condition variable
 unfoldable pub stateCode : Where → ℕ
 stateCode running = 2
 stateCode ready = 1
 stateCode (forMutex m) = 3
 stateCode (onCondition c) = 4
 
+-- the object waited for, or 255
 unfoldable pub objectCode : Where → ℕ
 objectCode running = 255
 objectCode ready = 255
 objectCode (forMutex m) = m
 objectCode (onCondition c) = c
 
+-- 0 stopped, 1 one-shot, 2 periodic
 unfoldable pub timerCode : TimerState → ℕ
 timerCode stopped = 0
 timerCode oneShot = 1
@@ -172,14 +180,17 @@ placeAt h t =
     let k = h .rows in
     cond (at k running t) 0 (ahead t (queue (setAt (h .sets) (thread k t .stands)) (priority k t)))
 
+-- the row of thread t of a state
 abbrev pub rowAt : Scheduler → ℕ → ThreadRow
 rowAt h t =
     let x = thread (h .rows) t in
     record { base = x .base; state = stateCode (x .stands); object = objectCode (x .stands); place = placeAt h t }
 
+-- the row of a timer
 abbrev pub timerRowOf : Timer → TimerRow
 timerRowOf x = record { state = timerCode (x .state); condition = x .condition; length = x .length; left = x .left }
 
+-- the page of a state
 unfoldable pub pageOf : State → Page
 pageOf s = record {
   started = s .scheduler .rows .started;

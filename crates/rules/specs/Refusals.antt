@@ -21,6 +21,7 @@ pub record Test : Type 0 where
   pub verdict : Verdict
 
 infixr 20 _⇒_
+-- a test with its verdict
 abbrev pub _⇒_ : Bool → Verdict → Test
 b ⇒ v = record { holds = b; verdict = v }
 
@@ -33,9 +34,11 @@ verdict (x ∷ xs) = cond (x .holds) (x .verdict) (verdict xs)
 abbrev pub noMutexAt : Rows → ℕ → Bool
 noMutexAt k m = leb (length (k .mutexes)) m
 
+-- no condition variable
 abbrev pub noConditionAt : Rows → ℕ → Bool
 noConditionAt k c = leb (length (k .ties)) c
 
+-- no timer
 abbrev pub noTimerAt : List Timer → ℕ → Bool
 noTimerAt ts i = leb (length ts) i
 

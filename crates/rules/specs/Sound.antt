@@ -83,6 +83,7 @@ exists k ready = true
 exists k (forMutex m) = ltb m (length (k .mutexes))
 exists k (onCondition c) = ltb c (length (k .ties))
 
+-- of each thread
 abbrev pub objectsSound : Rows → Bool
 objectsSound k = each (length (k .threads)) (λ t. exists k (thread k t .stands))
 
@@ -101,6 +102,7 @@ ownerSound k m =
 abbrev pub waiterSound : Rows → ℕ → ℕ → Bool
 waiterSound k m t = implies (at k (forMutex m) t) (not (eqb t (mutex k m .owner)) && leb (priority k t) (mutex k m .ceiling))
 
+-- those of each mutex
 abbrev pub mutexesSound : Rows → Bool
 mutexesSound k = each (length (k .mutexes)) (λ m. ownerSound k m && each (length (k .threads)) (waiterSound k m))
 
@@ -110,6 +112,7 @@ conditionSound k c =
     cond (anyone k (onCondition c)) (ltb (tied k c) (length (k .mutexes))) (eqb (tied k c) 255)
     && each (length (k .threads)) (λ t. implies (at k (onCondition c) t) (eqb (owned (k .mutexes) t) 0 && leb (thread k t .base) (mutex k (tied k c) .ceiling)))
 
+-- that of each condition variable
 abbrev pub conditionsSound : Rows → Bool
 conditionsSound k = each (length (k .ties)) (conditionSound k)
 

@@ -39,18 +39,22 @@ waits ready = false
 waits (forMutex m) = true
 waits (onCondition c) = true
 
+-- a thread: its base priority and where it stands
 pub record Thread : Type 0 where
   pub base : ℕ
   pub stands : Where
 
+-- a mutex: its ceiling, its owner, 255 for none, and its count
 pub record Mutex : Type 0 where
   pub ceiling : ℕ
   pub owner : ℕ
   pub count : ℕ
 
+-- what a timer does: it is stopped, or goes as a one-shot or a periodic one
 pub data TimerState : Type 0 where
   stopped oneShot periodic : TimerState
 
+-- a timer: its state, its condition variable, its length n and its ticks left
 pub record Timer : Type 0 where
   pub state : TimerState
   pub condition : ℕ
@@ -71,10 +75,12 @@ pub record Sets : Type 0 where
   pub mutex : List QueueSet
   pub condition : List QueueSet
 
+-- the rows and their queues
 pub record Scheduler : Type 0 where
   pub rows : Rows
   pub sets : Sets
 
+-- the whole state
 pub record State : Type 0 where
   pub scheduler : Scheduler
   pub count : ℕ
@@ -82,24 +88,31 @@ pub record State : Type 0 where
 
 -- ---- what stands at an id; outside a table a row that is never used
 
+-- outside the tables
 abbrev pub noThread : Thread
 noThread = record { base = 0; stands = running }
 
+-- outside the table
 abbrev pub noMutex : Mutex
 noMutex = record { ceiling = 0; owner = 255; count = 0 }
 
+-- a stopped timer
 abbrev pub stoppedTimer : Timer
 stoppedTimer = record { state = stopped; condition = 255; length = 0; left = 0 }
 
+-- the row of thread t
 abbrev pub thread : Rows → ℕ → Thread
 thread k t = getD (k .threads) t noThread
 
+-- of mutex m
 abbrev pub mutex : Rows → ℕ → Mutex
 mutex k m = getD (k .mutexes) m noMutex
 
+-- the mutex that condition variable c is tied to
 abbrev pub tied : Rows → ℕ → ℕ
 tied k c = getD (k .ties) c 255
 
+-- timer i
 abbrev pub timer : List Timer → ℕ → Timer
 timer ts i = getD ts i stoppedTimer
 
@@ -125,21 +138,27 @@ owned (m ∷ ms) t = cond (eqb (m .owner) t) 1 0 + owned ms t
 
 -- ---- rows with one thing changed
 
+-- the rows with other threads
 abbrev pub withThreads : Rows → List Thread → Rows
 withThreads k x = record { started = k .started; runner = k .runner; threads = x; mutexes = k .mutexes; ties = k .ties }
 
+-- with other mutexes
 abbrev pub withMutexes : Rows → List Mutex → Rows
 withMutexes k x = record { started = k .started; runner = k .runner; threads = k .threads; mutexes = x; ties = k .ties }
 
+-- with other ties
 abbrev pub withTies : Rows → List ℕ → Rows
 withTies k x = record { started = k .started; runner = k .runner; threads = k .threads; mutexes = k .mutexes; ties = x }
 
+-- with another running thread
 abbrev pub withRunner : Rows → ℕ → Rows
 withRunner k x = record { started = k .started; runner = x; threads = k .threads; mutexes = k .mutexes; ties = k .ties }
 
+-- started
 abbrev pub withStarted : Rows → Rows
 withStarted k = record { started = true; runner = k .runner; threads = k .threads; mutexes = k .mutexes; ties = k .ties }
 
+-- the scheduler with other rows
 abbrev pub withRows : Scheduler → Rows → Scheduler
 withRows h k = record { rows = k; sets = h .sets }
 

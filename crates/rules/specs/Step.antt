@@ -19,10 +19,12 @@ use Rattle.rules.specs.Effects.{effect, given, withScheduler}
 use Rattle.rules.specs.Refusals.{verdictOf}
 use Rattle.rules.specs.Sound.{sound}
 
+-- an answer, and the state that follows
 pub record Stepped : Type 0 where
   pub answer : Answer
   pub state : State
 
+-- whether a call is the tick
 abbrev pub isTick : Call → Bool
 isTick Start = false
 isTick (CreateThread base) = false
@@ -49,6 +51,7 @@ after s call =
 abbrev pub runner : State → ℕ
 runner s = s .scheduler .rows .runner
 
+-- accepted: 0, what is given, and who runs afterwards
 abbrev pub accepted : State → Call → Stepped
 accepted s call = record { answer = record { number = 0; given = given s call; running = runner (after s call) }; state = after s call }
 

@@ -1,5 +1,5 @@
 // The scheduler: threads, mutexes, condition variables and their sets of queues; the largest ceiling that a thread owns, and how a thread waits,
-// which the building of a loaded state needs. What the calls do to it stands in `moves` and `owners`, in place.
+// which building needs, and the row of a thread, which describing needs. What the calls do to it stands in `moves` and `owners`, in place.
 // An id is taken modulo the size of its table, so that every function is total; callers hand in ids that exist.
 use choice::larger;
 use parts::Thread;

@@ -53,8 +53,8 @@ unfoldable pub prioritiesIn : List ThreadRow → List Mutex → ℕ → List ℕ
 prioritiesIn rows mutexes n = tabulate 32 (λ t. max (rowAt rows t .base) (ceilingIn mutexes n t))
 
 -- whether thread t owns none of the first n mutexes
-unfoldable pub freeIn : List Mutex → ℕ → ℕ → Bool
-freeIn mutexes n t = each n (λ m. not (eqb (mutexAt mutexes m .owner) t))
+unfoldable pub ownsNothingIn : List Mutex → ℕ → ℕ → Bool
+ownsNothingIn mutexes n t = each n (λ m. not (eqb (mutexAt mutexes m .owner) t))
 
 -- ---- who stands where
 

@@ -10,7 +10,7 @@ ghost use Rattle.units.specs.Units.{outside};
 ghost use Rattle.rules.specs.State.{same};
 ghost use Rattle.rules.specs.Page.{whereOf, runnerFrom};
 ghost use Rattle.rules.specs.Sound.{implies};
-ghost use Rattle.standing.specs.Models.{kindOf, standsOf, ceilingIn, prioritiesIn, freeIn, anyoneIn, threadsIn, topIn};
+ghost use Rattle.standing.specs.Models.{kindOf, standsOf, ceilingIn, prioritiesIn, ownsNothingIn, anyoneIn, threadsIn, topIn};
 
 // What the tests of one row read besides it: whether started, the running thread or 255, its priority, and how many threads, mutexes and
 // condition variables there are.
@@ -108,7 +108,7 @@ pub fn priorities_of(rows: [ThreadRow; 32], mutexes: [Mutex; 16], n: u8) -> [u8;
 
 // Whether thread t owns none of the first n mutexes.
 pub fn owns_nothing(mutexes: [Mutex; 16], n: u8, t: u8) -> bool
-    ensures { λ r. ⌜ r ≡ freeIn mutexes n t ⌝ }
+    ensures { λ r. ⌜ r ≡ ownsNothingIn mutexes n t ⌝ }
 {
     let mut m = n;
     while 0 < m {
@@ -154,7 +154,7 @@ pub fn runner_of(rows: [ThreadRow; 32], n: u8) -> u8
     255
 }
 
-// The priority of thread t with the first mutexes; its base is 0 if it is none of the first n threads.
+// The priority of thread t with the first `count` mutexes; its base is 0 if it is none of the first n threads.
 pub fn top_of(rows: [ThreadRow; 32], n: u8, mutexes: [Mutex; 16], count: u8, t: u8) -> u8
     ensures { λ r. ⌜ r ≡ topIn rows n mutexes count t ⌝ }
 {

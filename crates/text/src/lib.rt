@@ -45,7 +45,7 @@ fn put(text: Text, byte: u8) -> Text
     Text { bytes, from }
 }
 
-// The digit of a number below 10.
+// The last digit of a number.
 fn digit(n: u64) -> u8
     ensures { λ r. ⌜ r ≡ 48 + n % 10 ⌝ }
 {

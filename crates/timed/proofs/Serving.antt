@@ -1,20 +1,16 @@
--- One timer served in place is the definition's: it signals, and is hung again by its place or stopped.
+-- One timer served in place is the definition's: it signals, and is started again or stopped.
 -- Assumes nothing.
-use Prim.Native.Nat.{ℕ, zero, suc, _+_, _-_, _*_, _%_, _^_, _<_, _≤_}
+use Prim.Native.Nat.{ℕ, zero, suc, _+_, _-_, _%_, _<_, _≤_}
 use mathlib.Core.Path.{_≡_, refl, sym, ap, _∙_}
-use mathlib.Core.Bool.{Bool, true, false, cond}
 use mathlib.Core.List.{List, [], _∷_}
 use native.Mathlib.Omega.{arith}
 use lib.ListN.{length, getD, set}
-use lib.Dec.{eqb, ltb}
-use lib.Bits.{bitOr}
-use lib.Pow.{shl-exact}
-use borrow.Author.Tests.{lt-leb, eq-eqb, ne-eqb}
+use borrow.Author.Tests.{eq-eqb, ne-eqb}
 use Rattle.laws.specs.Bits.{holds}
 use Rattle.wheel.specs.declared.Wheel.{Wheel}
 use Rattle.wheel.specs.declared.Due.{Due}
-use Rattle.wheel.specs.Wheels.{turnsOf, idsOf, first, rest}
-use Rattle.wheel.specs.Inside.{bitOf, hungOn, startedIn}
+use Rattle.wheel.specs.Wheels.{idsOf, first, rest}
+use Rattle.wheel.specs.Inside.{startedIn}
 use Rattle.scheduler.specs.declared.Scheduler.{Scheduler}
 use Rattle.scheduler.specs.Models.{signalModel}
 use Rattle.cells.specs.Cells.{schedulerIn}
@@ -27,8 +23,6 @@ use Rattle.engine.proofs.Dues.{few-among}
 use Rattle.engine.proofs.Serving.{onFrom, serve-on, serve-none, serve-full}
 use Rattle.plain.specs.declared.Counts.{Counts}
 use Rattle.plain.specs.Standing.{engineIn}
-use Rattle.timed.specs.declared.Place.{Place}
-use Rattle.timed.specs.Serving.{nowhere, placeOf}
 
 -- ---- the ids that are left
 
@@ -55,48 +49,6 @@ pub goes-on : (x y : Engine) (z : Effect) (ids ids′ : List ℕ) (n i : ℕ) �
 goes-on x y z ids ids′ n i few-so low is-first others served whole =
     let step : y ≡ serveModel x (first ids) = served ∙ ap (serveModel x) is-first in
     (λ j. onFrom (n + 1) (step j) (others j)) ∙ sym (serve-on x ids n few-so (rw is-first at low)) ∙ whole
-
--- ---- hung again
-
--- a bit shifted within the word is the timer's
-shifted : (i : ℕ) → i < 32 → (1 * 2 ^ i) % 2 ^ 32 ≡ bitOf i
-unfolding bitOf
-shifted i low = rw (lt-leb 32 i low, shl-exact {a = 1} 1 i 32 (omega arith) (omega (arith, low))) (omega arith)
-
--- a wheel w, a timer i of the 32 with n ticks to go, and the place p that was found for it
-module _ (w : Wheel) (i n : ℕ) (low : i < 32) (p : Place) (found : p ≡ placeOf (getD (w .spoke) i 0) (w .position) n) where
-  -- the place n ticks on
-  abbrev here : Place
-  here = record { spoke = (w .position + n) % 64; turns = turnsOf n }
-
-  -- the stores that hang it at a place, with its bit b
-  abbrev hungAt : ℕ → Place → Wheel
-  hungAt b q = record {
-    spokes = set (w .spokes) (q .spoke) (bitOr (getD (w .spokes) (q .spoke) 0) b);
-    turns = set (w .turns) i (q .turns);
-    spoke = set (w .spoke) i (q .spoke);
-    position = w .position;
-  }
-
-  -- it has a place
-  pub hung : p .spoke < 64 → hungAt ((1 * 2 ^ i) % 2 ^ 32) p ≡ startedIn w i n
-  unfolding startedIn hungOn placeOf
-  hung h = ap (λ b. hungAt b p) (shifted i low) ∙ rw (lt-leb 32 i low) (by-test (ltb (getD (w .spoke) i 0) 64) (eqb n 0) found)
-    where
-      by-test : (a b : Bool) → p ≡ cond a nowhere (cond b nowhere here) → hungAt (bitOf i) p ≡ cond a w (cond b w (hungAt (bitOf i) here))
-      by-test true b e = absurd (omega (arith, h, ap (λ (q : Place). q .spoke) e))
-      by-test false true e = absurd (omega (arith, h, ap (λ (q : Place). q .spoke) e))
-      by-test false false e = ap (hungAt (bitOf i)) e
-
-  -- it has none
-  pub unhung : 64 ≤ p .spoke → w ≡ startedIn w i n
-  unfolding startedIn hungOn placeOf
-  unhung h = rw (lt-leb 32 i low) (by-test (ltb (getD (w .spoke) i 0) 64) (eqb n 0) found)
-    where
-      by-test : (a b : Bool) → p ≡ cond a nowhere (cond b nowhere here) → w ≡ cond a w (cond b w (hungAt (bitOf i) here))
-      by-test true b e = refl
-      by-test false true e = refl
-      by-test false false e = absurd (omega (arith, h, ap (λ (q : Place). q .spoke) e))
 
 -- ---- a timer served
 

@@ -24,7 +24,7 @@ ghost use Rattle.wheel.specs.Wheels.{idsOf};
 ghost use Rattle.engine.specs.Models.{startTimerModel, stopTimerModel, serveAllModel, tickModel};
 ghost use Rattle.plain.specs.declared.Counts.{Counts};
 ghost use Rattle.plain.specs.Standing.{engineIn, steppedIn};
-ghost use Rattle.timed.specs.Serving.{placeOf, servedIn};
+ghost use Rattle.timed.specs.Serving.{servedIn};
 
 // The timers, wheel and tick count that follow, and the answer.
 pub struct Timed {
@@ -32,39 +32,10 @@ pub struct Timed {
     pub answer: Answer,
 }
 
-// The timers and wheel that follow, and how many timers were served.
+// The timers, wheel and tick count that follow, and how many timers were served.
 struct Served {
     clock: Clock,
     given: u16,
-}
-
-// Where a timer is hung and with how many turns; spoke 255 for nowhere.
-struct Place {
-    spoke: u8,
-    turns: u16,
-}
-
-// The place of a timer, length ticks on from the position: nowhere if it hangs now, on a spoke below 64, or for no ticks.
-fn find_place(now: u8, position: u8, length: u16) -> Place
-    ensures { λ r. ⌜ r ≡ placeOf now position length ⌝ }
-{
-    if now < 64 {
-        return Place {
-            spoke: 255,
-            turns: 0,
-        };
-    }
-    if length == 0 {
-        return Place {
-            spoke: 255,
-            turns: 0,
-        };
-    }
-    let at = (position as u32 + length as u32) % 64;
-    Place {
-        spoke: at as u8,
-        turns: (length - 1) / 64,
-    }
 }
 
 // Call 11.
@@ -143,13 +114,8 @@ fn serve_all(cells: &mut [u8; 1281], clock: Clock, due: Due) -> Served
         let row = timers[i];
         signal(cells, row.condition);
         if row.state == 2 {
-            let place = find_place(wheel.spoke[i], wheel.position, row.length);
-            if place.spoke < 64 {
-                let s = place.spoke as usize;
-                wheel.spokes[s] = wheel.spokes[s] | 1u32 << id;
-                wheel.turns[i] = place.turns;
-                wheel.spoke[i] = place.spoke;
-            }
+            let again = wheel.start(id, Ticks(row.length));
+            wheel = again;
         } else {
             timers[i] = Timer {
                 state: 0,

@@ -21,7 +21,7 @@ struct Trace {
 }
 
 // The records after the whole rows, in order.
-fn trace_rows(engine: Engine, bytes: &[u8], output: i32, path: &[u8]) -> Trace {
+fn trace_rows(engine: Engine, bytes: &[u8], output: i32, out: &[u8]) -> Trace {
     let rows = bytes.len() / 8;
     let mut reached = engine;
     let mut i: usize = 0;
@@ -30,7 +30,7 @@ fn trace_rows(engine: Engine, bytes: &[u8], output: i32, path: &[u8]) -> Trace {
         let stepped = step_row(reached, row);
         let next = stepped.engine;
         reached = next;
-        if !write_record(next, output, path) {
+        if !write_record(next, output, out) {
             return Trace {
                 engine: reached,
                 ended: true,
@@ -45,14 +45,14 @@ fn trace_rows(engine: Engine, bytes: &[u8], output: i32, path: &[u8]) -> Trace {
 }
 
 // The records after all rows, and after a last one that is cut short, which changes nothing.
-fn trace_part(engine: Engine, bytes: &[u8], output: i32, path: &[u8]) -> Trace {
-    let whole = trace_rows(engine, bytes, output, path);
+fn trace_part(engine: Engine, bytes: &[u8], output: i32, out: &[u8]) -> Trace {
+    let whole = trace_rows(engine, bytes, output, out);
     if whole.ended {
         return whole;
     }
     let reached = whole.engine;
     if bytes.len() % 8 != 0 {
-        write_record(reached, output, path);
+        write_record(reached, output, out);
     }
     Trace {
         engine: reached,

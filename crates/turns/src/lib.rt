@@ -1,4 +1,4 @@
-// A row of 8 bytes as one call on a kernel whose scheduler stands in an array and is changed in place; and the engine taken apart so, and put together.
+// A row that was taken apart as one call on a kernel whose scheduler stands in an array and is changed in place; and the engine taken apart so, and put together.
 use calls::Call;
 use calls::Decoded;
 use calls::Verdict;

@@ -12,7 +12,7 @@ use Rattle.laws.specs.Lists.{getD-tabulate, set-tabulate-below, tabulate, tabul
 use Rattle.laws.specs.Bits.{wordOf, among, members, word-same, xor-words, members-word}
 use Rattle.wheel.specs.Hung.{Hung, Good, left, ticked, due}
 use Rattle.wheel.specs.Wheels.{spokeOf, turnsOf, hangs, wheelOf, dueOf, onNext, tickedOf}
-use Rattle.wheel.specs.Inside.{Midst, moved, cleared, tickedIn}
+use Rattle.wheel.specs.Inside.{midst, moved, cleared, tickedIn}
 use Rattle.wheel.proofs.Turning.{ends, kept, others, spoke-after, turns-after}
 use Rattle.wheel.proofs.Visits.{visited-below, begun, turn, atEnd, home, After}
 use Rattle.wheel.proofs.Hanging.{spoke-word, hangs-at}
@@ -31,7 +31,7 @@ spokeNow h i = spokeOf (h .position) (left h i)
 
 module _ (h : Hung) (g : Good h) (u : ℕ) (next : u ≡ (h .position + 1) % 64) where
   -- the wheel as the visits begin
-  begins : Midst (moved (wheelOf h)) 0 0 ≡ After (wheelOf h .spokes) u (hangs h u) (turnsNow h) (spokeNow h) 0
+  begins : midst (moved (wheelOf h)) 0 0 ≡ After (wheelOf h .spokes) u (hangs h u) (turnsNow h) (spokeNow h) 0
   unfolding moved wheelOf
   begins =
       let e : (h .position % 64 + 1) % 64 ≡ u = omega (arith, g .place) in

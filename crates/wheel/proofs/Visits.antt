@@ -14,7 +14,7 @@ use Rattle.laws.specs.Lists.{getD-tabulate, set-tabulate-below, tabulate, tabul
 use Rattle.laws.specs.Bools.{by-cases, or-false, or-right}
 use Rattle.laws.specs.Bits.{wordOf, among, put, word-same, word-none, word-one, or-words, among-next}
 use Rattle.wheel.specs.declared.Ticked.{Ticked}
-use Rattle.wheel.specs.Inside.{bitOf, Midst, visit, visited}
+use Rattle.wheel.specs.Inside.{bitOf, midst, visit, visited}
 
 -- the bit of an id that is one of the 32 is a word of that id alone
 pub bit-word : (i : ℕ) → i < 32 → bitOf i ≡ wordOf 32 (λ j. eqb j i)
@@ -88,7 +88,7 @@ module _ (spokes : List ℕ) (position : ℕ) (q : ℕ → Bool) (T S : ℕ → 
   -- the wheel after the visits of the timers below k
   unfoldable pub After : ℕ → Ticked
   After k =
-      Midst
+      midst
       (record {
         spokes = spokes;
         turns = tabulate 32 (λ i. turn q T (ltb i k) i);
@@ -99,7 +99,7 @@ module _ (spokes : List ℕ) (position : ℕ) (q : ℕ → Bool) (T S : ℕ → 
       (length (among k q))
 
   -- before any visit
-  pub begun : After 0 ≡ Midst (record { spokes = spokes; turns = tabulate 32 T; spoke = tabulate 32 S; position = position }) 0 0
+  pub begun : After 0 ≡ midst (record { spokes = spokes; turns = tabulate 32 T; spoke = tabulate 32 S; position = position }) 0 0
   unfolding After among
   begun =
       let z : (i : ℕ) → ltb i 0 ≡ false = λ i. le-ltb i 0 (omega arith) in

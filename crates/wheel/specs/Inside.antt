@@ -59,8 +59,8 @@ leftIn w i =
     ((getD (w .turns) i 0 * 64 + (getD (w .spoke) i 0 + 63 - w .position % 64) % 64 + 1) % 65536))
 
 -- the wheel in the midst of a tick, who came due so far, and how many timers were visited
-abbrev pub Midst : Wheel → ℕ → ℕ → Ticked
-Midst w d n = record { wheel = w; due = record { ids = d }; visits = n }
+abbrev pub midst : Wheel → ℕ → ℕ → Ticked
+midst w d n = record { wheel = w; due = record { ids = d }; visits = n }
 
 -- the wheel with the timer i stopped, but still on its spoke
 abbrev pub withoutSpoke : Wheel → ℕ → Wheel
@@ -74,8 +74,8 @@ withoutTurn w i = record { spokes = w .spokes; turns = set (w .turns) i (getD (w
 unfoldable pub visit : Ticked → ℕ → Ticked
 visit t i =
     cond (eqb (getD (t .wheel .turns) i 0) 0)
-    (Midst (withoutSpoke (t .wheel) i) (bitOr (t .due .ids) (bitOf i)) (t .visits + 1))
-    (Midst (withoutTurn (t .wheel) i) (t .due .ids) (t .visits + 1))
+    (midst (withoutSpoke (t .wheel) i) (bitOr (t .due .ids) (bitOf i)) (t .visits + 1))
+    (midst (withoutTurn (t .wheel) i) (t .due .ids) (t .visits + 1))
 
 -- the timers of a list visited, one after the other
 unfoldable pub visited : List ℕ → Ticked → Ticked
@@ -89,7 +89,7 @@ moved w = record { spokes = w .spokes; turns = w .turns; spoke = w .spoke; posit
 -- those that came due taken off the spoke that was visited
 unfoldable pub cleared : Ticked → Ticked
 cleared t =
-    Midst
+    midst
     (record {
       spokes = set (t .wheel .spokes) (t .wheel .position) (bitXor (getD (t .wheel .spokes) (t .wheel .position) 0) (t .due .ids));
       turns = t .wheel .turns;
@@ -101,7 +101,7 @@ cleared t =
 
 -- a tick: the wheel moves to the next spoke, visits the timers on it, and takes off those that came due
 unfoldable pub tickedIn : Wheel → Ticked
-tickedIn w = cleared (visited (members 32 (getD (w .spokes) (moved w .position) 0)) (Midst (moved w) 0 0))
+tickedIn w = cleared (visited (members 32 (getD (w .spokes) (moved w .position) 0)) (midst (moved w) 0 0))
 
 -- a set without its lowest id
 unfoldable pub withoutFirst : Due → Due

@@ -5,14 +5,14 @@ use units::Ticks;
 use wheel::Wheel;
 
 // The timers from one id up to another started for n ticks.
-fn started(w: Wheel, from: u8, to: u8, n: Ticks) -> Wheel {
-    let mut w = w;
+fn started(wheel: Wheel, from: u8, to: u8, n: Ticks) -> Wheel {
+    let mut wheel = wheel;
     let mut id = from;
     while id < to {
-        w = w.start(id, n);
+        wheel = wheel.start(id, n);
         id += 1;
     }
-    w
+    wheel
 }
 
 // A number and the byte after it.
@@ -25,13 +25,13 @@ fn write_number(n: u8, after: u8) {
 // A line: the timers below `due` come due at the tick, those below `on` have a turn left, those below `all` hang on another spoke.
 fn write_line(due: u8, on: u8, all: u8) {
     let empty = Wheel::empty(0);
-    let w1 = started(empty, 0, due, Ticks(1));
-    let w2 = started(w1, due, on, Ticks(65));
-    let w3 = started(w2, on, all, Ticks(2));
-    let t = w3.tick();
+    let some = started(empty, 0, due, Ticks(1));
+    let more = started(some, due, on, Ticks(65));
+    let every = started(more, on, all, Ticks(2));
+    let ticked = every.tick();
     write_number(on, b' ');
     write_number(all, b' ');
-    write_number(t.visits, b'\n');
+    write_number(ticked.visits, b'\n');
 }
 
 fn main() {

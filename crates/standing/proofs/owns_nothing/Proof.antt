@@ -2,13 +2,13 @@
 use borrow.Author.Needs.{needs}
 use mathlib.Core.Path.{_≡_}
 use borrow.Author.Tests.{eq-eqb, ne-eqb}
-use Rattle.standing.specs.Models.{freeIn}
+use Rattle.standing.specs.Models.{ownsNothingIn}
 use Rattle.standing.proofs.Loops.{each-on, each-out, each-end}
 use Rattle.standing.proofs.owns_nothing.Statement.{statement}
 use Rattle.standing.proofs.owns_nothing.Tie as tie
 
 abbrev Inv-loop : tie.InvT-loop
-Inv-loop n t mutexes m₀ m = freeIn mutexes m t ≡ freeIn mutexes n t
+Inv-loop n t mutexes m₀ m = ownsNothingIn mutexes m t ≡ ownsNothingIn mutexes n t
 
 abbrev μ-loop : tie.MeasureT-loop
 μ-loop n t mutexes m₀ m = m
@@ -29,18 +29,18 @@ array-copy-out-row : tie.Need-array-copy-out-row Inv-loop μ-loop
 array-copy-out-row c = search needs
 
 returns : tie.Need-returns Inv-loop μ-loop
-unfolding freeIn
+unfolding ownsNothingIn
 returns c = each-out _ _ _ (c .before .before .before .loop-test .taken) (c .before .before .before .before .loop .inv) (rw (eq-eqb _ _ (c .if1 .taken)))
 
 loop-less : tie.Need-loop-less Inv-loop μ-loop
 loop-less c = search needs
 
 loop-again : tie.Need-loop-again Inv-loop μ-loop
-unfolding freeIn
+unfolding ownsNothingIn
 loop-again c = each-on _ _ _ (c .before .before .before .loop-test .taken) (c .before .before .before .before .loop .inv) (rw (ne-eqb _ _ (c .if1 .left)))
 
 returns-2 : tie.Need-returns-2 Inv-loop μ-loop
-unfolding freeIn
+unfolding ownsNothingIn
 returns-2 c = each-end _ _ _ (c .loop-test .left) (c .before .loop .inv)
 
 pub owns-nothing-spec : {M : Type 1} → statement M

@@ -10,13 +10,13 @@ use Rattle.engine.specs.Models.{noTimer, serveModel}
 use Rattle.engine.proofs.Serving.{onFrom}
 use Rattle.plain.specs.declared.Counts.{Counts}
 use Rattle.plain.specs.Standing.{engineIn}
-use Rattle.timed.proofs.Serving.{few, one-less, ends, goes-on, hung, unhung, serves-periodic, serves-other}
+use Rattle.timed.proofs.Serving.{few, one-less, ends, goes-on, serves-periodic, serves-other}
 use Rattle.timed.proofs.serve_all.Statement.{statement}
 use Rattle.timed.proofs.serve_all.Tie as tie
 use Rattle.timed.proofs.serve_all.Reads as reads
 use Rattle.timed.proofs.serve_all.Lts as lts
 use Rattle.owners.proofs.signal.Reads as signal-reads
-use Rattle.timed.proofs.find_place.Reads as find-place-reads
+use Rattle.wheel.proofs.Wheel.start.Reads as start-reads
 use Rattle.wheel.proofs.Due.first.Reads as first-reads
 use Rattle.wheel.proofs.Due.rest.Reads as rest-reads
 
@@ -45,41 +45,8 @@ array-copy-out-row c = search needs
 signal-requires : tie.Need-signal-requires Inv-loop μ-loop
 signal-requires c κs = search needs
 
-element-copy-out-find-place : tie.Need-element-copy-out-find-place Inv-loop μ-loop
-element-copy-out-find-place c = search needs
-
-find-place-requires : tie.Need-find-place-requires Inv-loop μ-loop
-find-place-requires c κs = search needs
-
-cast-s : tie.Need-cast-s Inv-loop μ-loop
-cast-s c = search needs
-
-mul-wheel : tie.Need-mul-wheel Inv-loop μ-loop
-mul-wheel c = search needs
-
-element-copy-out-wheel : tie.Need-element-copy-out-wheel Inv-loop μ-loop
-element-copy-out-wheel c = search needs
-
-cast-wheel : tie.Need-cast-wheel Inv-loop μ-loop
-cast-wheel c = search needs
-
-shl-wheel : tie.Need-shl-wheel Inv-loop μ-loop
-shl-wheel c = search needs
-
-mul-wheel-2 : tie.Need-mul-wheel-2 Inv-loop μ-loop
-mul-wheel-2 c = search needs
-
-element-write-wheel : tie.Need-element-write-wheel Inv-loop μ-loop
-element-write-wheel c = search needs
-
-mul-wheel-3 : tie.Need-mul-wheel-3 Inv-loop μ-loop
-mul-wheel-3 c = search needs
-
-element-write-wheel-2 : tie.Need-element-write-wheel-2 Inv-loop μ-loop
-element-write-wheel-2 c = search needs
-
-element-write-wheel-3 : tie.Need-element-write-wheel-3 Inv-loop μ-loop
-element-write-wheel-3 c = search needs
+start-requires : tie.Need-start-requires Inv-loop μ-loop
+start-requires c κs = search needs
 
 mul-timers : tie.Need-mul-timers Inv-loop μ-loop
 mul-timers c = search needs
@@ -103,7 +70,7 @@ loop-less c =
 
 -- what is known at the end of a turn of the loop
 abbrev Turn : Type 0
-Turn = lts.After-first2 (first-reads.Asked, first-reads.Learnt, signal-reads.Asked, signal-reads.Learnt, find-place-reads.Asked, find-place-reads.Learnt, rest-reads.Asked, rest-reads.Learnt) reads.Pre reads.Post Inv-loop μ-loop
+Turn = lts.After-first2 (first-reads.Asked, first-reads.Learnt, signal-reads.Asked, signal-reads.Learnt, start-reads.Asked, start-reads.Learnt, rest-reads.Asked, rest-reads.Learnt) reads.Pre reads.Post Inv-loop μ-loop
 
 -- the timer that is first is served
 served-one : (c : Turn) (counts : Counts)
@@ -117,9 +84,8 @@ served-one c counts =
     let k = c .before .before .before .before .signal .last .0 in
     let count = c .before .before .before .before .before .before .before .before .before .before .before .before .args .clock .count in
     let row = getD (l .timers) (l .id) noTimer in
-    ⊎-elim (λ w. (λ i. engineIn k (record { timers = w .7 i; wheel = w .8 i; count = count }) counts) ∙ serves-periodic (l .cells) k (l .timers) (l .wheel) count (l .id) _ row low refl signalled counts _ (w .0 .taken) (hung (l .wheel) (l .id) (row .length) low _ (w .2 .ensures) (w .4 .taken)))
-    (⊎-elim (λ w. (λ i. engineIn k (record { timers = w .5 i; wheel = w .6 i; count = count }) counts) ∙ serves-periodic (l .cells) k (l .timers) (l .wheel) count (l .id) _ row low refl signalled counts _ (w .0 .taken) (unhung (l .wheel) (l .id) (row .length) low _ (w .2 .ensures) (w .4 .left)))
-    (λ w. (λ i. engineIn k (record { timers = w .1 i; wheel = w .2 i; count = count }) counts) ∙ serves-other (l .cells) k (l .timers) (l .wheel) count (l .id) _ row low refl signalled counts (w .0 .left)))
+    ⊎-elim (λ w. (λ i. engineIn k (record { timers = w .2 i; wheel = w .3 i; count = count }) counts) ∙ serves-periodic (l .cells) k (l .timers) (l .wheel) count (l .id) _ row low refl signalled counts _ (w .0 .taken) (w .1 .ensures .0))
+    (λ w. (λ i. engineIn k (record { timers = w .1 i; wheel = w .2 i; count = count }) counts) ∙ serves-other (l .cells) k (l .timers) (l .wheel) count (l .id) _ row low refl signalled counts (w .0 .left))
     (c .before .before .if1 .came)
 
 loop-again : tie.Need-loop-again Inv-loop μ-loop
@@ -147,18 +113,7 @@ serve-all-spec =
     mul-row
     array-copy-out-row
     signal-requires
-    element-copy-out-find-place
-    find-place-requires
-    cast-s
-    mul-wheel
-    element-copy-out-wheel
-    cast-wheel
-    shl-wheel
-    mul-wheel-2
-    element-write-wheel
-    mul-wheel-3
-    element-write-wheel-2
-    element-write-wheel-3
+    start-requires
     mul-timers
     array-set-from-timers
     rest-requires

@@ -8,10 +8,10 @@ use Rattle.trace.proofs.trace_rows.Statement.{statement}
 use Rattle.trace.proofs.trace_rows.Tie as tie
 
 abbrev Inv-loop : tie.InvT-loop
-Inv-loop bytes output path rows reached₀ i₀ reached i = rows ≡ length bytes / 8
+Inv-loop bytes output out rows reached₀ i₀ reached i = rows ≡ length bytes / 8
 
 abbrev μ-loop : tie.MeasureT-loop
-μ-loop bytes output path rows reached₀ i₀ reached i = rows - i
+μ-loop bytes output out rows reached₀ i₀ reached i = rows - i
 
 loop-holds : tie.Need-loop-holds Inv-loop μ-loop
 loop-holds c = refl

@@ -5,10 +5,10 @@ use Rattle.wheel_work.proofs.started.Statement.{statement}
 use Rattle.wheel_work.proofs.started.Tie as tie
 
 abbrev Inv-loop : tie.InvT-loop
-Inv-loop from to n w₀ id₀ w id = Unit
+Inv-loop from to n wheel₀ id₀ wheel id = Unit
 
 abbrev μ-loop : tie.MeasureT-loop
-μ-loop from to n w₀ id₀ w id = to - id
+μ-loop from to n wheel₀ id₀ wheel id = to - id
 
 add-id : tie.Need-add-id Inv-loop μ-loop
 add-id c = search needs

@@ -11,7 +11,7 @@ use mir.Syntax.{w32}
 use mir.Val.{Fits}
 use lib.Count.{trailingZeros}
 use Rattle.laws.specs.Bits.{members}
-use Rattle.wheel.specs.Inside.{Midst, visited, moved, tickedIn}
+use Rattle.wheel.specs.Inside.{midst, visited, moved, tickedIn}
 use Rattle.wheel.proofs.Walk.{Going, goes, clearedAt, gone, id-lt, goes-due, goes-round}
 use Rattle.wheel.proofs.Laws.{tick-promise}
 use Rattle.wheel.proofs.Wheel.tick.Statement.{statement}
@@ -22,7 +22,7 @@ use Rattle.wheel.proofs.bit.Reads as bit-reads
 
 abbrev Inv-loop : tie.InvT-loop
 Inv-loop self₀ at here rest₀ due₀ visits₀ self rest due visits =
-    Going (visited (members 32 rest₀) (Midst self₀ 0 0)) here self rest due visits
+    Going (visited (members 32 rest₀) (midst self₀ 0 0)) here self rest due visits
 
 abbrev μ-loop : tie.MeasureT-loop
 μ-loop self₀ at here rest₀ due₀ visits₀ self rest due visits = rest
