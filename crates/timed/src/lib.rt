@@ -114,8 +114,7 @@ fn serve_all(cells: &mut [u8; 1281], clock: Clock, due: Due) -> Served
         let row = timers[i];
         signal(cells, row.condition);
         if row.state == 2 {
-            let again = wheel.start(id, Ticks(row.length));
-            wheel = again;
+            wheel = wheel.start(id, Ticks(row.length));
         } else {
             timers[i] = Timer {
                 state: 0,
