@@ -160,7 +160,9 @@ def stops_when_interrupted(room: Path) -> bool:
     os.close(line)
     said = read_on(screen, b"", b"%")
     os.killpg(run.pid, signal.SIGINT)
-    written = run.communicate(timeout=SECONDS)[0]
+    # Nothing is read before the end, so the program cannot have written all its text by then.
+    run.wait(SECONDS)
+    written = run.communicate()[0]
     said = read_on(screen, said, b"")
     os.close(screen)
     cleared = b"%" in said and said.endswith(b" \r")

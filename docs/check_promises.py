@@ -5,7 +5,7 @@
 
 Each name in backticks in the tables before the last has to exist in the crate that is named before it: a definition in specs/, a theorem in proofs/, a
 function in src/, a wrong program in must-fail/, or a file. Each public function of each library has to stand in the last table with its promise as
-the code has it and with at least two wrong programs that the promise rules out, and no other function. Functions of the library `files` speak to the system, which decides their result where no equation is promised.
+the code has it and with at least two wrong programs that the promise rules out, and no other function. Functions of the libraries `files` and `stored` speak to the system, which decides their result where no equation is promised.
 """
 
 from __future__ import annotations
@@ -20,7 +20,7 @@ from edits import TOP, Wrong, wrongs
 PAGE = TOP / "docs" / "PROMISES.md"
 HEADING = "| Function | Promise | One result by | Rules out |"
 EXCEPTIONS = {"reading::open": "`form`; the page is promised for right form alone, and load reads it then only"}
-OUTSIDE = "files"
+OUTSIDE = ("files", "stored")
 OPEN = "open: it speaks to the system, which decides"
 WRONGS: List[Wrong] = list(wrongs())
 # An array after a call, or made by it, as what it stands for, and the theorem that one array does so.
@@ -105,7 +105,7 @@ def one_result(name: str, promise: str) -> str:
     """By what any two results that a promise allows are equal."""
     if name in EXCEPTIONS:
         return EXCEPTIONS[name]
-    if name.startswith(OUTSIDE + "::") and "≡" not in promise:
+    if name.split("::")[0] in OUTSIDE and "≡" not in promise:
         return OPEN
     for form, theorem in IN_PLACE.items():
         if form in promise:

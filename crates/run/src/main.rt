@@ -10,13 +10,13 @@ use files::argument;
 use files::fill;
 use files::open_input;
 use files::open_output;
-use files::start_named;
 use files::write;
-use files::write_record;
 use libc::STDERR_FILENO;
 use libc::STDIN_FILENO;
 use libc::STDOUT_FILENO;
 use lines::answer_block;
+use stored::start_named;
+use stored::write_record;
 
 // How far a run has come: the engine, the number of the last line, whether the run has ended, and whether it failed.
 struct Run {

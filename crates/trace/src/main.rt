@@ -8,11 +8,11 @@ use files::argument;
 use files::fill;
 use files::open_input;
 use files::open_output;
-use files::start_named;
-use files::write_record;
 use libc::STDERR_FILENO;
 use rows::row_at;
 use rows::step_row;
+use stored::start_named;
+use stored::write_record;
 
 // How far a trace has come: the engine, and whether it has ended.
 struct Trace {
