@@ -94,6 +94,11 @@ def empty_run(room: Path) -> bool:
     return door(room, "run", "empty").stdout == b"line answer given running\n"
 
 
+def hear_interrupts() -> None:
+    """A program that is started from a background job ignores interrupts, and a user's does not."""
+    signal.signal(signal.SIGINT, signal.SIG_DFL)
+
+
 def long_run(room: Path, stdout: int, stderr: int) -> Tuple[subprocess.Popen[bytes], bytes]:
     """A run of 100,003 rows, the last cut short, and its text. It stands still while that is not read, so it lasts as long as a trial wants."""
     rows = [b"\x02\x04", b"\x01", *[b"\x0d"] * 100_000]
@@ -101,7 +106,9 @@ def long_run(room: Path, stdout: int, stderr: int) -> Tuple[subprocess.Popen[byt
     lines = ["line answer given running", "1 0 1 255", "2 0 255 1"]
     lines += ["%d 0 0 1" % n for n in range(3, 100_003)] + ["100003 17 255 1", ""]
     words = [str(TOP / "tehuamozo"), "run", "long.rows"]
-    run = subprocess.Popen(words, cwd=room, stdin=subprocess.DEVNULL, stdout=stdout, stderr=stderr, start_new_session=True)
+    run = subprocess.Popen(
+        words, cwd=room, stdin=subprocess.DEVNULL, stdout=stdout, stderr=stderr, start_new_session=True, preexec_fn=hear_interrupts
+    )
     return run, "\n".join(lines).encode()
 
 
