@@ -1,3 +1,2 @@
 pub mod Marked
-pub mod Mistakes
-pub mod Ring
+pub mod Further

@@ -1,0 +1,41 @@
+-- Runs that show what document 01 says besides its marked examples: the mistakes that look right and that none of E1 to E12 breaks, and that deadlock can
+-- happen. Of each run what the definitions show, and what is to be seen.
+-- Assumes nothing.
+use Prim.Native.Nat.{ℕ}
+use mathlib.Core.Bool.{cond}
+use mathlib.Core.List.{List, [], _∷_, _++_}
+use lib.ListN.{getD}
+use Rattle.calls.specs.declared.Call.{Call}
+use Rattle.calls.specs.declared.Call.the-variants.{Start, CreateThread, CreateMutex, CreateCondition, Acquire, Wait, Broadcast, Tick}
+use Rattle.rules.specs.Queues.{emptySet, queue}
+use Rattle.rules.specs.State.{boot}
+use Rattle.rules.specs.Sound.{sound}
+use Rattle.rules.specs.Step.{Stepped, runner}
+use Rattle.rules.specs.Examples.{Example, from, answer}
+
+-- the running thread and who waits for mutex 0 at priority p
+unfoldable pub runnerAndWaiters : ℕ → Stepped → List ℕ
+runnerAndWaiters p r = runner (r .state) ∷ queue (getD (r .state .scheduler .sets .mutex) 0 emptySet) p
+
+-- 1 if the state is sound, then the answer
+unfoldable pub soundAndAnswer : Stepped → List ℕ
+soundAndAnswer r = cond (sound (r .state)) 1 0 ∷ answer r
+
+-- threads 1 and 2 of base 2 wait on a condition variable tied to a free mutex of ceiling 6, and thread 0 runs
+unfoldable pub bothWait : List Call
+bothWait = CreateThread 2 ∷ CreateThread 2 ∷ CreateMutex 6 ∷ CreateCondition ∷ Start ∷ Acquire 0 ∷ Wait 0 0 ∷ Acquire 0 ∷ Wait 0 0 ∷ []
+
+-- threads 1 and 2 of base 4 with mutexes of ceiling 4: thread 1 owns mutex 0, and since the tick thread 2 runs
+unfoldable pub equalsSliced : List Call
+equalsSliced = CreateThread 4 ∷ CreateThread 4 ∷ CreateMutex 4 ∷ CreateMutex 4 ∷ Start ∷ Acquire 0 ∷ Tick ∷ []
+
+-- the table
+unfoldable pub further : List Example
+further =
+    -- broadcast makes every waiter ready? two leave, the first owns the mutex and runs, the other waits for it
+    record { shown = answer (from boot (bothWait ++ (Broadcast 0 ∷ []))); seen = 0 ∷ 2 ∷ 1 ∷ [] }
+    ∷ record { shown = runnerAndWaiters 2 (from boot (bothWait ++ (Broadcast 0 ∷ []))); seen = 1 ∷ 2 ∷ [] }
+    -- "never blocks on a mutex of its own priority"? thread 2 waits, and thread 1 runs
+    ∷ record { shown = runnerAndWaiters 4 (from boot (equalsSliced ++ (Acquire 0 ∷ []))); seen = 1 ∷ 2 ∷ [] }
+    -- mutexes waited for in a ring: each thread takes the other's, thread 0 runs, and the state is sound
+    ∷ record { shown = soundAndAnswer (from boot (equalsSliced ++ (Acquire 1 ∷ Tick ∷ Acquire 1 ∷ Acquire 0 ∷ []))); seen = 1 ∷ 0 ∷ 255 ∷ 0 ∷ [] } ∷ []
