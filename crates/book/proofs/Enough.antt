@@ -78,6 +78,13 @@ module _ (c : ℕ) where
       (λ v z. by-cases (eqb v t) (λ y. rw (y, eqb-true v t y) e) (λ y. rw y (sym (x .others v ∙ rw y))))
       ∙ ap (λ n. suc (howMany n (standsAt l (onCondition c)))) (sym (x .size))
 
+  -- a signal that finds somebody leaves one waiter fewer
+  fewer : (n t : ℕ) (b : Book) → highestEarliest b (onCondition c) ≡ somebody t → waiting b ≤ suc n → waiting (signal b c .book) ≤ n
+  fewer n t b e h =
+      let x = found-there b (onCondition c) t e in
+      let less : waiting (wake b c (somebody t) .book) ≤ n = omega (arith, one-less b (wake b c (somebody t) .book) t (leaves-wake b t (x .1)) (x .0) (x .1), h) in
+      subst (λ f. waiting (wake b c f .book) ≤ n) (sym e) less
+
   -- ---- so many signals are enough
 
   -- with no waiter signals do nothing
@@ -103,11 +110,9 @@ module _ (c : ℕ) where
       go : (f : Found) → highestEarliest b (onCondition c) ≡ f → ((l : Book) → waiting l ≤ n → signals (n + m) l c ≡ signals n l c) → signals (suc n + m) b c ≡ signals (suc n) b c
       go nobody e r = no-more (suc n + m) b e ∙ sym (no-more (suc n) b e)
       go (somebody t) e r =
-          let x = found-there b (onCondition c) t e in
-          let fewer : waiting (wake b c (somebody t) .book) ≤ n = omega (arith, one-less b (wake b c (somebody t) .book) t (leaves-wake b t (x .1)) (x .0) (x .1), h) in
           let more : suc n + m ≡ suc (n + m) = omega arith in
           ap (λ k. signals k b c) more ∙ one-then (n + m) b
-          ∙ ap (then-others (signal b c)) (r (signal b c .book) (subst (λ f. waiting (wake b c f .book) ≤ n) (sym e) fewer)) ∙ sym (one-then n b)
+          ∙ ap (then-others (signal b c)) (r (signal b c .book) (fewer n t b e h)) ∙ sym (one-then n b)
 
   -- after as many signals as there are waiters nobody waits there
   none-left : (n : ℕ) (b : Book) → waiting b ≤ n → highestEarliest (signals n b c .book) (onCondition c) ≡ nobody
@@ -118,10 +123,7 @@ module _ (c : ℕ) where
       go : (f : Found) → highestEarliest b (onCondition c) ≡ f → ((l : Book) → waiting l ≤ n → highestEarliest (signals n l c .book) (onCondition c) ≡ nobody)
           → highestEarliest (signals n (signal b c .book) c .book) (onCondition c) ≡ nobody
       go nobody e r = ap (λ (o : Outcome). highestEarliest (o .book) (onCondition c)) (no-more (suc n) b e) ∙ e
-      go (somebody t) e r =
-          let x = found-there b (onCondition c) t e in
-          let fewer : waiting (wake b c (somebody t) .book) ≤ n = omega (arith, one-less b (wake b c (somebody t) .book) t (leaves-wake b t (x .1)) (x .0) (x .1), h) in
-          r (signal b c .book) (subst (λ f. waiting (wake b c f .book) ≤ n) (sym e) fewer)
+      go (somebody t) e r = r (signal b c .book) (fewer n t b e h)
 
 -- as many as there are threads do what 32 do
 pub signals-enough : (b : Book) (c : ℕ) → length (b .threads) ≤ 32 → signals 32 b c ≡ signals (length (b .threads)) b c
