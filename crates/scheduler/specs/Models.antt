@@ -11,7 +11,7 @@ use Rattle.parts.specs.declared.Thread.{Thread}
 use Rattle.parts.specs.declared.Threads.{Threads}
 use Rattle.parts.specs.declared.Head.{Head}
 use Rattle.parts.specs.declared.Waiting.{Waiting}
-use Rattle.parts.specs.Models.{Ran}
+use Rattle.parts.specs.declared.Ran.{Ran}
 use Rattle.parts.specs.Models as parts
 use Rattle.parts.specs.Models.{headModel, rowOf, withRow, liftModel, arriveModel, leaveModelIn}
 use Rattle.scheduler.specs.declared.Mutex.{Mutex}
