@@ -18,7 +18,7 @@ use Rattle.laws.specs.Lists.{by-below, tabulate, getD-tabulate, length-tabulate
 use Rattle.calls.specs.declared.Call.the-variants.{Tick}
 use Rattle.calls.specs.declared.Verdict.the-variants.{Done, Stopped}
 use Rattle.calls.specs.Answers.{numberOf}
-use Rattle.scheduler.specs.Models.{Signalled}
+use Rattle.scheduler.specs.declared.Signalled.{Signalled}
 use Rattle.scheduler.specs.Models as scheduler
 use Rattle.wheel.specs.declared.Ticked.{Ticked}
 use Rattle.wheel.specs.Hung as hung
