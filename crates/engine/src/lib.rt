@@ -8,20 +8,18 @@ use queue::Links;
 use queue::Queues;
 use scheduler::Mutex;
 use scheduler::Scheduler;
-use units::Length;
-use units::Micros;
-use units::ticks_of;
+use units::Ticks;
 use wheel::Wheel;
 ghost use mathlib.Core.Path.{_≡_};
 ghost use Rattle.rules.specs.State.{boot};
 ghost use Rattle.engine.specs.Stands.{engineOf};
-ghost use Rattle.engine.specs.Models.{bootModel, kindCode, lengthCode};
+ghost use Rattle.engine.specs.Models.{bootModel, kindCode};
 
 // A timer's row: its state (0 stopped, 1 one-shot, 2 periodic), its condition variable, 255 for none, and its length in ticks.
 pub struct Timer {
     pub state: u8,
     pub condition: u8,
-    pub length: u16,
+    pub length: Ticks,
 }
 
 // The whole engine. The four counts say how many rows of each table are in use.
@@ -50,17 +48,6 @@ pub fn state_of(kind: Kind) -> u8
     match kind {
         Kind::OneShot => 1,
         Kind::Periodic => 2,
-    }
-}
-
-// The length in ticks of a delay, 0 where it is out of range.
-pub fn length_of(v: Micros) -> u16
-    ensures { λ r. ⌜ r ≡ lengthCode v ⌝ }
-{
-    let length = ticks_of(v);
-    match length {
-        Length::Whole(n) => n.0,
-        Length::OutOfRange => 0,
     }
 }
 
@@ -108,7 +95,7 @@ impl Engine {
         let stopped = Timer {
             state: 0,
             condition: 255,
-            length: 0,
+            length: Ticks(0),
         };
         let timers = [stopped; 32];
         let wheel = Wheel::empty(0);
