@@ -10,12 +10,9 @@ use lib.Dec.{ltb}
 use borrow.Author.Tests.{lt-ltb, le-ltb}
 use Rattle.laws.specs.Bools.{and-right, cond-true, cond-false}
 use Rattle.laws.specs.Lists.{by-below, tabulate, length-tabulate, getD-tabulate, tabulate-below, tabulate-same}
-use Rattle.wheel.specs.Hung.{Hung, Good, empty, started}
-use Rattle.wheel.specs.Wheels.{wheelOf}
-use Rattle.wheel.specs.Inside.{startedIn}
-use Rattle.wheel.proofs.Hanging.{start-hangs}
-use Rattle.wheel.proofs.Laws.{good-empty, good-started}
-use Rattle.wheel.proofs.Filling.{filled, fill-none, fill-next}
+use Rattle.wheel.specs.Hung.{Hung, Good, empty, started, filled}
+use Rattle.wheel.specs.Promise.{wheelOf, startedIn}
+use Rattle.wheel.proofs.Promise.{start-hangs, good-empty, good-started, fill-none, fill-next}
 use Rattle.rules.specs.State.{Timer, stoppedTimer, timer}
 use Rattle.rules.specs.Page as rules
 use Rattle.rules.specs.Page.{rowsOf, timerStateOf, timerOf, describedBy, threadFormed, timerFormed, eachRow, pageFormed, pageSound, timerCode}

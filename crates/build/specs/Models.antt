@@ -14,8 +14,7 @@ use Rattle.scheduler.specs.declared.Scheduler.{Scheduler}
 use Rattle.scheduler.specs.Models.{highestIn, readyModel, waitForModel, waitOnModel}
 use Rattle.wheel.specs.declared.Wheel.{Wheel}
 use Rattle.wheel.specs.Hung.{empty}
-use Rattle.wheel.specs.Wheels.{wheelOf}
-use Rattle.wheel.specs.Inside.{startedIn}
+use Rattle.wheel.specs.Promise.{wheelOf, startedIn}
 use Rattle.engine.specs.declared.Timer.{Timer}
 use Rattle.engine.specs.declared.Engine.{Engine}
 use Rattle.engine.specs.Models.{stoppedRow}

@@ -20,7 +20,7 @@ ghost use Prim.Native.Nat.{min};
 ghost use mathlib.Core.Path.{_≡_};
 ghost use mathlib.Core.Bool.{true};
 ghost use Rattle.wheel.specs.Hung.{empty};
-ghost use Rattle.wheel.specs.Wheels.{wheelOf};
+ghost use Rattle.wheel.specs.Promise.{wheelOf};
 ghost use Rattle.rules.specs.Page.{pageFormed, pageSound, describedBy};
 ghost use Rattle.engine.specs.Stands.{engineOf};
 ghost use Rattle.page.specs.Says.{said};

@@ -13,9 +13,8 @@ use Rattle.queue.proofs.Sets.{level-of}
 use Rattle.queue.proofs.Canon.{read-in}
 use Rattle.parts.specs.declared.Thread as parts
 use Rattle.scheduler.specs.Models.{rowModel}
-use Rattle.wheel.specs.Wheels.{wheelOf}
-use Rattle.wheel.specs.Inside.{leftIn}
-use Rattle.wheel.proofs.Hanging.{left-hung}
+use Rattle.wheel.specs.Promise.{wheelOf, leftIn}
+use Rattle.wheel.proofs.Promise.{left-hung}
 use Rattle.rules.specs.Queues.{queue}
 use Rattle.rules.specs.State.{Where, running, ready, forMutex, onCondition, same, Timer, Rows, Scheduler, State, stoppedTimer, thread, mutex, tied, timer, at as standsAt, priority, setAt}
 use Rattle.rules.specs.Sound.{timersSound, sound}

@@ -12,7 +12,7 @@ use Rattle.parts.specs.declared.Thread.{Thread}
 use Rattle.scheduler.specs.declared.Scheduler.{Scheduler}
 use Rattle.scheduler.specs.Models.{forMutexOf, onConditionOf, rowModel}
 use Rattle.wheel.specs.declared.Wheel.{Wheel}
-use Rattle.wheel.specs.Inside.{leftIn}
+use Rattle.wheel.specs.Promise.{leftIn}
 use Rattle.engine.specs.declared.Timer.{Timer}
 use Rattle.engine.specs.declared.Engine.{Engine}
 use Rattle.engine.specs.Models.{noTimer}

@@ -13,7 +13,7 @@ use Rattle.calls.specs.declared.Verdict.{Verdict}
 use Rattle.calls.specs.Answers.{numberOf}
 use Rattle.scheduler.specs.declared.Scheduler as scheduled
 use Rattle.scheduler.specs.Models as scheduler
-use Rattle.wheel.specs.Wheels.{wheelOf}
+use Rattle.wheel.specs.Promise.{wheelOf}
 use Rattle.rules.specs.State.{Scheduler, State}
 use Rattle.rules.specs.Next.{chooseNext}
 use Rattle.rules.specs.Effects as rules

@@ -18,15 +18,13 @@ use Rattle.calls.specs.Answers.{numberOf}
 use Rattle.scheduler.specs.declared.Scheduler as scheduled
 use Rattle.scheduler.specs.declared.Signalled.{Signalled}
 use Rattle.scheduler.specs.Models as scheduler
-use Rattle.wheel.specs.Hung as hung
 use Rattle.wheel.specs.Hung.{left}
-use Rattle.wheel.specs.Wheels.{wheelOf}
+use Rattle.wheel.specs.Promise.{wheelOf}
 use Rattle.rules.specs.State.{Rows, Scheduler, State, stoppedTimer, mutex, timer, priority, withRows, withStarted, ready, stand, arrive}
 use Rattle.rules.specs.Next.{runFirst}
 use Rattle.rules.specs.Effects as rules
 use Rattle.rules.specs.Effects.{threadCreated, mutexCreated, conditionCreated, acquired, released, waited, signalled, signalledTimes, effect, given}
 use Rattle.rules.specs.Refusals.{tests, verdictOf}
-use Rattle.rules.specs.Page.{timerCode}
 use Rattle.rules.specs.Step.{stepSound}
 use Rattle.soundness.proofs.Facts.{Sound}
 use Rattle.soundness.proofs.Next.{Kept, Turned}
@@ -38,9 +36,8 @@ use Rattle.meaning.proofs.Calls.{acquire-stands, release-stands, waited-stands}
 use Rattle.meaning.proofs.Signals.{signal-stands, broadcast-stands, run-stands}
 use Rattle.meaning.proofs.Creating.{create-stands, create-mutex-stands, create-condition-stands}
 use Rattle.meaning.proofs.Sizes.{Sizes, sizes-first, sizes-acquired, sizes-released, sizes-waited, sizes-signalled, sizes-times}
-use Rattle.engine.specs.declared.Timer as engine
 use Rattle.engine.specs.Models.{withScheduler, startModel, createThreadModel, createMutexModel, createConditionModel, createTimerModel, acquireModel, releaseModel, waitModel, signalModel, broadcastModel}
-use Rattle.engine.specs.Stands.{timerIn, hungOf, engineOf, steppedOf}
+use Rattle.engine.specs.Stands.{rowOfTimer, timerIn, hungOf, engineOf, steppedOf}
 use Rattle.engine.proofs.Answers.{scheduler-stands, judged-stands}
 use Rattle.engine.proofs.Verdicts.{start-verdict, thread-verdict, mutex-verdict, condition-verdict, timer-verdict, acquire-verdict, release-verdict, wait-verdict, signal-verdict, broadcast-verdict}
 
@@ -282,7 +279,7 @@ module _ {s : State} (o : Sound s) where
   timer-effect : numberOf (verdictOf s CreateTimer) ≡ 0 → record { scheduler = engineOf s .scheduler; timers = engineOf s .timers; wheel = engineOf s .wheel; started = engineOf s .started; threads = engineOf s .threads; mutexes = engineOf s .mutexes; conditions = engineOf s .conditions; clocks = engineOf s .clocks % 32 + 1; count = engineOf s .count } ≡ engineOf (effect s CreateTimer)
   timer-effect z = unfold effect engineOf in (λ i. record {
     scheduler = schedulerOf (s .scheduler);
-    timers = tabulate 32 (λ j. let x = timer-more j i in record { state = timerCode (x .state); condition = x .condition; length = x .length });
+    timers = tabulate 32 (λ j. rowOfTimer (timer-more j i));
     wheel = wheelOf (record { position = s .count % 64; lefts = tabulate 32 (λ j. timer-more j i .left) });
     started = k .started;
     threads = length (k .threads);

@@ -6,7 +6,7 @@ use mathlib.Core.Bool.{Bool, true, false, cond, _||_}
 use mathlib.Core.List.{List, [], _∷_, _++_, map}
 use native.Mathlib.Omega.{arith}
 use native.Mathlib.Nat.{not-suc-le-zero, le-of-suc-le-suc}
-use lib.ListN.{length, length-map}
+use lib.ListN.{length}
 use lib.Dec.{eqb·zero-suc, eqb·suc-suc}
 use Rattle.laws.specs.Bits.{put, among, has}
 use Rattle.rules.specs.State.{Timer, timer}
@@ -38,16 +38,6 @@ listed (suc k) p = go (p 0) refl (shifted k p (among k (λ i. p (suc i))) (liste
     go : (b : Bool) → p 0 ≡ b → Listed (suc k) p (map suc (among k (λ i. p (suc i)))) → Listed (suc k) p (put b 0 ++ map suc (among k (λ i. p (suc i))))
     go true e l = (omega arith, e, zero-not (among k (λ i. p (suc i))), l)
     go false e l = l
-
--- and are at most k
-pub few-among : (k : ℕ) (p : ℕ → Bool) → length (among k p) ≤ k
-unfolding among
-few-among zero p = omega arith
-few-among (suc k) p = go (p 0) (few-among k (λ i. p (suc i)))
-  where
-    go : (b : Bool) → length (among k (λ i. p (suc i))) ≤ k → length (put b 0 ++ map suc (among k (λ i. p (suc i)))) ≤ suc k
-    go true h = omega (arith, h, length-map (among k (λ i. p (suc i))) suc)
-    go false h = omega (arith, h, length-map (among k (λ i. p (suc i))) suc)
 
 -- ---- their condition variables
 

@@ -6,7 +6,7 @@ use mathlib.Core.List.{List}
 use native.Mathlib.Numerals.{add-one}
 use native.Mathlib.Omega.{arith}
 use borrow.Author.Tests.{le-leb, lt-leb}
-use Rattle.wheel.specs.Wheels.{first, rest}
+use Rattle.wheel.specs.Promise.{first, rest}
 use Rattle.engine.specs.declared.Engine.{Engine}
 use Rattle.engine.specs.declared.Effect.{Effect}
 use Rattle.engine.specs.Models.{serveModel, serveAllModel}

@@ -5,12 +5,10 @@ use mathlib.Core.Path.{_≡_, refl, sym, ap, _∙_}
 use mathlib.Core.Bool.{true}
 use mathlib.Core.List.{flatten}
 use Rattle.laws.specs.Lists.{tabulate}
-use Rattle.laws.specs.Bits.{wordOf}
 use Rattle.queue.specs.Models.{backModel, levelModel, withLevelModel, emptyLinks, emptyQueues}
 use Rattle.queue.specs.Stands.{endsOf, linksOf, queuesOf}
 use Rattle.parts.specs.Models.{arriveModel, joinModel, standModel}
 use Rattle.wheel.specs.Hung.{empty}
-use Rattle.wheel.specs.Wheels.{wheelOf, spokeOf, turnsOf, hangs}
 use Rattle.rules.specs.Queues.{emptySet, toBack}
 use Rattle.rules.specs.Page.{stateCode, objectCode, timerCode}
 use Rattle.meaning.specs.Stands.{allSets, threadsOf, schedulerOf}
@@ -70,5 +68,5 @@ wrong-promise x r e = (e, λ s o d. e ∙ ap (λ y. refusedModel y WrongRow) d �
 
 -- boot is document 01's boot
 pub boot-stands : bootModel ≡ engineOf boot
-unfolding bootModel engineOf boot schedulerOf threadsOf allSets tabulate linksOf queuesOf endsOf flatten emptySet toBack priority highestCeiling setAt stateCode objectCode timerCode arriveModel joinModel standModel backModel levelModel withLevelModel emptyLinks emptyQueues empty wheelOf spokeOf turnsOf hangs wordOf
+unfolding bootModel engineOf boot schedulerOf threadsOf allSets tabulate linksOf queuesOf endsOf flatten emptySet toBack priority highestCeiling setAt stateCode objectCode timerCode arriveModel joinModel standModel backModel levelModel withLevelModel emptyLinks emptyQueues empty
 boot-stands = refl

@@ -13,8 +13,9 @@ use lib.Seq.{ext-getD}
 use lib.Dec.{eqb, ltb, leb}
 use borrow.Author.Tests.{eqb-true, eqb-false, eq-eqb, ne-eqb, lt-leb, lt-ltb}
 use Rattle.laws.specs.Bools.{by-cases, self, and-left, and-right, and-both, cond-true, cond-false}
-use Rattle.laws.specs.Bits.{among, has, has-among, among-same}
+use Rattle.laws.specs.Bits.{among, has, has-among, among-same, among-length}
 use Rattle.laws.specs.Lists.{by-below, tabulate, getD-tabulate, length-tabulate, set-tabulate, tabulate-below}
+use Rattle.units.specs.Units.{inTicks}
 use Rattle.calls.specs.declared.Call.the-variants.{Tick}
 use Rattle.calls.specs.declared.Verdict.the-variants.{Done, Stopped}
 use Rattle.calls.specs.Answers.{numberOf}
@@ -23,11 +24,8 @@ use Rattle.scheduler.specs.Models as scheduler
 use Rattle.wheel.specs.declared.Ticked.{Ticked}
 use Rattle.wheel.specs.Hung as hung
 use Rattle.wheel.specs.Hung.{Hung, Good, left, withLeft, due}
-use Rattle.wheel.specs.Wheels.{wheelOf, idsOf, tickedOf}
-use Rattle.wheel.specs.Inside.{startedIn, tickedIn}
-use Rattle.wheel.proofs.Hanging.{start-hangs}
-use Rattle.wheel.proofs.Ticking.{tick-hangs, left-ticked}
-use Rattle.wheel.proofs.Dues.{ids-due}
+use Rattle.wheel.specs.Promise.{wheelOf, startedIn, tickedIn, tickedOf, idsOf}
+use Rattle.wheel.proofs.Promise.{start-hangs, tick-hangs, left-ticked, ids-due}
 use Rattle.rules.specs.State.{TimerState, stopped, oneShot, periodic, Timer, Rows, Scheduler, State, stoppedTimer, timer}
 use Rattle.rules.specs.Effects.{goes, isDue, afterDue, ticked, dueConditions, signalled, signalledEach, nextCount, effect, given}
 use Rattle.rules.specs.Refusals.{tests, verdictOf}
@@ -47,11 +45,11 @@ use Rattle.engine.specs.declared.Timer as engine
 use Rattle.engine.specs.declared.Engine.{Engine}
 use Rattle.engine.specs.declared.Effect.{Effect}
 use Rattle.engine.specs.Models.{stoppedRow, noTimer, timerOf, withScheduler, withTimer, withWheel, answeredModel, refusedModel, serveModel, serveAllModel, turned, tickModel}
-use Rattle.engine.specs.Stands.{timerIn, hungOf, engineOf, steppedOf}
+use Rattle.engine.specs.Stands.{rowOfTimer, timerIn, hungOf, engineOf, steppedOf}
 use Rattle.engine.proofs.Answers.{refused-stands, answered-stands}
 use Rattle.engine.proofs.Calls.{ready-to-choose}
 use Rattle.engine.proofs.Timers.{timer-at, stopped-left, left-short, good-hung}
-use Rattle.engine.proofs.Dues.{Listed, listed, few-among, due-conditions}
+use Rattle.engine.proofs.Dues.{Listed, listed, due-conditions}
 
 -- a stopped timer stays as it is
 stays-stopped : stoppedTimer ≡ ticked stoppedTimer
@@ -184,7 +182,7 @@ module _ (k : Rows) (s : State) (good : timersSound k (s .timers) ≡ true) wher
           is-again = after-tick ∙ ap (λ x. afterDue x (timer ts i)) e
 
           same-row : timerIn (s .timers) i ≡ timerIn (map ticked (s .timers)) i
-          same-row = ap (λ x. record { state = timerCode x; condition = timer ts i .condition; length = timer ts i .length }) e ∙ sym (ap (λ (x : Timer). record { state = timerCode (x .state); condition = x .condition; length = x .length }) is-again)
+          same-row = ap (λ x. record { state = timerCode x; condition = timer ts i .condition; length = inTicks (timer ts i .length) }) e ∙ sym (ap rowOfTimer is-again)
 
           open-slot : hung.free (hungMid (i ∷ is)) i (timer (s .timers) i .length) ≡ true
           open-slot = let g = going-timer k (timer ts i) going-now (sound-at i) in
@@ -212,7 +210,7 @@ module _ (k : Rows) (s : State) (good : timersSound k (s .timers) ≡ true) wher
           is-stopped = after-tick ∙ ap (λ x. afterDue x (timer ts i)) e
 
           is-stopped-row : stoppedRow ≡ timerIn (map ticked (s .timers)) i
-          is-stopped-row = unfold timerCode in (sym (ap (λ (x : Timer). record { state = timerCode (x .state); condition = x .condition; length = x .length }) is-stopped))
+          is-stopped-row = unfold timerCode in (sym (ap rowOfTimer is-stopped))
 
       -- by its state
       serve-by : (x : TimerState) → timer (s .timers) i .state ≡ x
@@ -226,7 +224,7 @@ module _ (k : Rows) (s : State) (good : timersSound k (s .timers) ≡ true) wher
       serve-one = unfold serveModel in (ap (λ (r : engine.Timer). by-row r) (is-row h) ∙ (unfold mid in (serve-by (timer ts i .state) refl)))
         where
           by-row : engine.Timer → Engine
-          by-row r = cond (eqb (r .state) 2) (withWheel (withScheduler (mid (i ∷ is) h) (scheduler.signalModel (mid (i ∷ is) h .scheduler) (r .condition) .scheduler)) (startedIn (mid (i ∷ is) h .wheel) i (r .length)))
+          by-row r = cond (eqb (r .state) 2) (withWheel (withScheduler (mid (i ∷ is) h) (scheduler.signalModel (mid (i ∷ is) h .scheduler) (r .condition) .scheduler)) (startedIn (mid (i ∷ is) h .wheel) i (r .length .0)))
               (withTimer (withScheduler (mid (i ∷ is) h) (scheduler.signalModel (mid (i ∷ is) h .scheduler) (r .condition) .scheduler)) i stoppedRow (mid (i ∷ is) h .wheel))
 
   -- ---- all that are due
@@ -287,7 +285,7 @@ module _ {s : State} (o : Sound s) where
   row-first : (i : ℕ) → i < 32 → timerIn (s .timers) i ≡ rowMid k s (o .timers) dueIds i
   row-first i l = by-cases (isDue (timer (s .timers) i))
       (λ e. sym (cond-true (has i dueIds) (timerIn (s .timers) i) (timerIn (map ticked (s .timers)) i) (has-among 32 (λ j. isDue (timer (s .timers) j)) i l ∙ e)))
-      (λ e. sym (cond-false (has i dueIds) (timerIn (s .timers) i) (timerIn (map ticked (s .timers)) i) (has-among 32 (λ j. isDue (timer (s .timers) j)) i l ∙ e) ∙ ap (λ (x : Timer). record { state = timerCode (x .state); condition = x .condition; length = x .length }) (timer-ticked (s .timers) i ∙ not-due e)))
+      (λ e. sym (cond-false (has i dueIds) (timerIn (s .timers) i) (timerIn (map ticked (s .timers)) i) (has-among 32 (λ j. isDue (timer (s .timers) j)) i l ∙ e) ∙ ap rowOfTimer (timer-ticked (s .timers) i ∙ not-due e)))
     where
       not-due : isDue (timer (s .timers) i) ≡ false → ticked (timer (s .timers) i) ≡ record { state = timer (s .timers) i .state; condition = timer (s .timers) i .condition; length = timer (s .timers) i .length; left = timer (s .timers) i .left - 1 }
       not-due e = unfold ticked in (cond-false (isDue (timer (s .timers) i)) (afterDue (timer (s .timers) i .state) (timer (s .timers) i)) _ e)
@@ -360,7 +358,7 @@ module _ {s : State} (o : Sound s) where
 
   serves : k .started ≡ true → all-served ≡ record { engine = engineOf (effect s Tick); given = given s Tick }
   serves on = ap₂ (λ x is. serveAllModel 32 0 x is) is-turned ids-so
-      ∙ serve-all k s (o .timers) dueIds 32 0 (s .scheduler) (few-among 32 (λ i. isDue (timer (s .timers) i))) (listed 32 (λ i. isDue (timer (s .timers) i))) (kept o) (going o on) refl
+      ∙ serve-all k s (o .timers) dueIds 32 0 (s .scheduler) (among-length 32 (λ i. isDue (timer (s .timers) i))) (listed 32 (λ i. isDue (timer (s .timers) i))) (kept o) (going o on) refl
       ∙ ap₂ (λ x n. record { engine = x; given = n }) is-served given-so
 
   -- started or stopped

@@ -13,16 +13,16 @@ use borrow.Author.Tests.{eqb-true, eq-eqb, lt-ltb, ltb-false, leb-false}
 use Rattle.laws.specs.Bools.{nor-left, and-left, and-right, and-both, cond-true, cond-false}
 use Rattle.laws.specs.Lists.{by-below, tabulate, getD-tabulate, length-tabulate, set-tabulate}
 use Rattle.units.specs.declared.Micros.{Micros}
-use Rattle.units.specs.Units.{ticksIn, outside}
+use Rattle.units.specs.declared.Length.the-variants.{Whole, OutOfRange}
+use Rattle.units.specs.Units.{ticksIn, outside, inTicks, lengthOf}
 use Rattle.calls.specs.declared.Call.the-variants.{StartTimer, StopTimer}
 use Rattle.calls.specs.declared.Kind.{Kind}
 use Rattle.calls.specs.declared.Kind.the-variants.{OneShot, Periodic}
 use Rattle.calls.specs.Answers.{numberOf}
 use Rattle.wheel.specs.Hung as hung
 use Rattle.wheel.specs.Hung.{Good, left, withLeft}
-use Rattle.wheel.specs.Wheels.{wheelOf}
-use Rattle.wheel.specs.Inside.{startedIn, stoppedIn}
-use Rattle.wheel.proofs.Hanging.{start-hangs, stop-hangs}
+use Rattle.wheel.specs.Promise.{wheelOf, startedIn, stoppedIn}
+use Rattle.wheel.proofs.Promise.{start-hangs, stop-hangs}
 use Rattle.rules.specs.State.{stopped, Timer, Rows, State, stoppedTimer, timer}
 use Rattle.rules.specs.Effects.{stateOf, goes, effect, given}
 use Rattle.rules.specs.Refusals.{tests, verdictOf}
@@ -33,9 +33,8 @@ use Rattle.soundness.proofs.Facts.{Sound}
 use Rattle.soundness.proofs.Keeping.{passed}
 use Rattle.soundness.proofs.Timers.{going-timer}
 use Rattle.meaning.proofs.Rows.{small-32}
-use Rattle.engine.specs.declared.Timer as engine
-use Rattle.engine.specs.Models.{kindCode, lengthCode, stoppedRow, withTimer, startTimerModel, stopTimerModel}
-use Rattle.engine.specs.Stands.{timerIn, hungOf, engineOf, steppedOf}
+use Rattle.engine.specs.Models.{kindCode, stoppedRow, withTimer, timerStarted, startTimerModel, stopTimerModel}
+use Rattle.engine.specs.Stands.{rowOfTimer, timerIn, hungOf, engineOf, steppedOf}
 use Rattle.engine.proofs.Answers.{judged-stands}
 use Rattle.engine.proofs.Verdicts.{start-timer-verdict, stop-timer-verdict}
 use Rattle.engine.proofs.Calls.{ready-to-choose}
@@ -81,11 +80,8 @@ module _ (ts : List Timer) (i : ℕ) (x : Timer) (there : i < length ts) (few : 
   set-there j n = sym (getD-set-other ts i j x stoppedTimer n)
 
   -- its row
-  pub timer-rows : set (tabulate 32 (timerIn ts)) (i % 32) (record { state = timerCode (x .state); condition = x .condition; length = x .length }) ≡ tabulate 32 (timerIn (set ts i x))
-  timer-rows = ap₂ (λ j r. set (tabulate 32 (timerIn ts)) j r) (small-32 i (omega arith)) (sym (ap row set-here)) ∙ set-tabulate 32 (timerIn ts) (timerIn (set ts i x)) i (λ j n. ap row (set-there j n))
-    where
-      row : Timer → engine.Timer
-      row y = record { state = timerCode (y .state); condition = y .condition; length = y .length }
+  pub timer-rows : set (tabulate 32 (timerIn ts)) (i % 32) (rowOfTimer x) ≡ tabulate 32 (timerIn (set ts i x))
+  timer-rows = ap₂ (λ j r. set (tabulate 32 (timerIn ts)) j r) (small-32 i (omega arith)) (sym (ap rowOfTimer set-here)) ∙ set-tabulate 32 (timerIn ts) (timerIn (set ts i x)) i (λ j n. ap rowOfTimer (set-there j n))
 
   -- and its ticks left
   pub left-rows : (count : ℕ) → withLeft (hungOf count ts) i (x .left) ≡ hungOf count (set ts i x)
@@ -132,21 +128,20 @@ module _ {s : State} (o : Sound s) where
     unfolding tests
     was-stopped = passed s (StartTimer i c kind v) z .1 .1 .1 .0
 
-    length-so : lengthCode v ≡ ticksIn (v .0)
-    length-so = unfold lengthCode in (cond-false (outside 1 65535 (ticksIn (v .0))) 0 (ticksIn (v .0)) in-range)
+    length-so : lengthOf v ≡ Whole (inTicks (ticksIn (v .0)))
+    length-so = cond-false (outside 1 65535 (ticksIn (v .0))) OutOfRange (Whole (inTicks (ticksIn (v .0)))) in-range
 
     some : 0 < ticksIn (v .0)
     some = ltb-false (ticksIn (v .0)) 1 (nor-left (ltb (ticksIn (v .0)) 1) (ltb 65535 (ticksIn (v .0))) in-range)
 
-    wheel-so : startedIn (wheelOf (hungOf (s .count) (s .timers))) i (lengthCode v) ≡ wheelOf (hungOf (s .count) (set (s .timers) i new))
-    wheel-so = ap (startedIn (wheelOf (hungOf (s .count) (s .timers))) i) length-so
-        ∙ start-turns k (s .count) (s .timers) i (ticksIn (v .0)) (o .timers) (omega (arith, there, o .few-timers)) (stopped-left k (timer (s .timers) i) (timer-at k (s .timers) (o .timers) i) was-stopped) some
+    wheel-so : startedIn (wheelOf (hungOf (s .count) (s .timers))) i (ticksIn (v .0)) ≡ wheelOf (hungOf (s .count) (set (s .timers) i new))
+    wheel-so = start-turns k (s .count) (s .timers) i (ticksIn (v .0)) (o .timers) (omega (arith, there, o .few-timers)) (stopped-left k (timer (s .timers) i) (timer-at k (s .timers) (o .timers) i) was-stopped) some
         ∙ ap wheelOf (left-rows (s .timers) i new there (o .few-timers) (s .count))
 
-    start-timer-effect : withTimer (engineOf s) i (record { state = kindCode kind; condition = c; length = lengthCode v }) (startedIn (engineOf s .wheel) i (lengthCode v)) ≡ engineOf (effect s (StartTimer i c kind v))
-    start-timer-effect = unfold effect engineOf in (λ j. record {
+    start-timer-effect : timerStarted (engineOf s) i c kind (lengthOf v) ≡ engineOf (effect s (StartTimer i c kind v))
+    start-timer-effect = ap (timerStarted (engineOf s) i c kind) length-so ∙ (unfold effect engineOf in (λ j. record {
       scheduler = engineOf s .scheduler;
-      timers = (ap₂ (λ a b. set (tabulate 32 (timerIn (s .timers))) (i % 32) (record { state = a; condition = c; length = b })) (kind-code kind) length-so ∙ timer-rows (s .timers) i new there (o .few-timers)) j;
+      timers = (ap (λ a. set (tabulate 32 (timerIn (s .timers))) (i % 32) (record { state = a; condition = c; length = inTicks (ticksIn (v .0)) })) (kind-code kind) ∙ timer-rows (s .timers) i new there (o .few-timers)) j;
       wheel = wheel-so j;
       started = k .started;
       threads = length (k .threads);
@@ -154,7 +149,7 @@ module _ {s : State} (o : Sound s) where
       conditions = length (k .ties);
       clocks = sym (length-set (s .timers) i new) j;
       count = s .count;
-    })
+    }))
 
   pub start-timer-steps : (i c : ℕ) (kind : Kind) (v : Micros) → startTimerModel (engineOf s) i c kind v ≡ steppedOf (stepSound s (StartTimer i c kind v))
   start-timer-steps i c kind v = unfold startTimerModel in (judged-stands s (StartTimer i c kind v) _ _ 255 refl (start-timer-verdict o i c kind v) (λ z. (start-timer-effect i c kind v z, (unfold given in refl), ready-to-choose o (StartTimer i c kind v) z)))

@@ -13,7 +13,7 @@ use borrow.Author.Tests.{ne-eqb, leb-false, not-false}
 use Rattle.laws.specs.Bools.{nor-left, nor-right}
 use Rattle.laws.specs.Lists.{tabulate, getD-tabulate}
 use Rattle.units.specs.declared.Micros.{Micros}
-use Rattle.units.specs.Units.{ticksIn, outside}
+use Rattle.units.specs.Units.{ticksIn, outside, lengthOf}
 use Rattle.calls.specs.declared.Call.the-variants.{Start, CreateThread, CreateMutex, CreateCondition, CreateTimer, Acquire, Release, Wait, Signal, Broadcast, StartTimer, StopTimer}
 use Rattle.calls.specs.declared.Kind.{Kind}
 use Rattle.calls.specs.declared.Verdict.{Verdict}
@@ -21,9 +21,9 @@ use Rattle.calls.specs.declared.Verdict.the-variants.{Stopped, NoSuchId, IdleCa
 use Rattle.calls.specs.Answers.{numberOf}
 use Rattle.parts.specs.declared.Thread as parts
 use Rattle.scheduler.specs.declared.Mutex as scheduler
-use Rattle.scheduler.specs.Models as models
 use Rattle.scheduler.specs.Models.{mutexOf, rowModel}
 use Rattle.verdicts.specs.Models.{createdVerdict, roomVerdict, startVerdict, acquireVerdict, releaseVerdict, heldVerdict, idsVerdict, idVerdict, delayVerdict, stopVerdict, firstOf, ownedOne, ownedIn}
+use Rattle.verdicts.proofs.Delays.{delay-tests}
 use Rattle.rules.specs.State.{TimerState, stopped, oneShot, periodic, Mutex, Rows, State, noMutex, tied, timer, priority, owned}
 use Rattle.rules.specs.Effects.{goes}
 use Rattle.rules.specs.Refusals.{Test, _⇒_, verdict, tests, verdictOf}
@@ -189,11 +189,11 @@ module _ {s : State} (o : Sound s) where
   stops-code oneShot = refl
   stops-code periodic = refl
 
-  pub start-timer-verdict : (i c : ℕ) (kind : Kind) (v : Micros) → firstOf (idsVerdict (engineOf s .started) (engineOf s .clocks) i (engineOf s .conditions) c) (delayVerdict v (timerOf (engineOf s) i .state)) ≡ verdictOf s (StartTimer i c kind v)
-  start-timer-verdict i c kind v = unfold idsVerdict delayVerdict verdictOf tests engineOf in (
+  pub start-timer-verdict : (i c : ℕ) (kind : Kind) (v : Micros) → firstOf (idsVerdict (engineOf s .started) (engineOf s .clocks) i (engineOf s .conditions) c) (delayVerdict (lengthOf v) (timerOf (engineOf s) i .state)) ≡ verdictOf s (StartTimer i c kind v)
+  start-timer-verdict i c kind v = ap (firstOf (idsVerdict (engineOf s .started) (engineOf s .clocks) i (engineOf s .conditions) c)) (delay-tests v (timerOf (engineOf s) i .state)) ∙ (unfold idsVerdict verdictOf tests engineOf in (
       two-first (not (k .started)) (leb (length (s .timers)) i || leb (length (k .ties)) c) Stopped NoSuchId (verdict (delay (not (eqb (timerOf (engineOf s) i .state) 0)))) (λ e. omega (arith, e)) (λ e. omega (arith, e))
       ∙ later (not (k .started)) Stopped (ids (not (eqb (timerOf (engineOf s) i .state) 0))) (ids (goes (timer (s .timers) i .state))) (λ on.
-      later (leb (length (s .timers)) i || leb (length (k .ties)) c) NoSuchId (delay (not (eqb (timerOf (engineOf s) i .state) 0))) (delay (goes (timer (s .timers) i .state))) (λ l. ap (λ b. verdict (delay b)) (state-of (nor-left (leb (length (s .timers)) i) (leb (length (k .ties)) c) l)))))
+      later (leb (length (s .timers)) i || leb (length (k .ties)) c) NoSuchId (delay (not (eqb (timerOf (engineOf s) i .state) 0))) (delay (goes (timer (s .timers) i .state))) (λ l. ap (λ b. verdict (delay b)) (state-of (nor-left (leb (length (s .timers)) i) (leb (length (k .ties)) c) l))))))
     where
       delay : Bool → List Test
       delay b = (outside 1 65535 (ticksIn (v .0)) ⇒ OutOfRange) ∷ (b ⇒ TimerRunning) ∷ []

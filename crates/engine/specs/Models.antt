@@ -7,15 +7,16 @@ use mathlib.Core.List.{List}
 use lib.ListN.{getD, set, replicate}
 use lib.Dec.{eqb, leb}
 use Rattle.units.specs.declared.Micros.{Micros}
-use Rattle.units.specs.Units.{ticksIn, outside}
+use Rattle.units.specs.declared.Length.{Length}
+use Rattle.units.specs.declared.Length.the-variants.{Whole, OutOfRange}
+use Rattle.units.specs.Units.{inTicks, lengthOf}
 use Rattle.queue.specs.Models.{emptyLinks, emptyQueues}
 use Rattle.parts.specs.Models.{arriveModel}
 use Rattle.scheduler.specs.declared.Scheduler.{Scheduler}
 use Rattle.scheduler.specs.Models as scheduler
 use Rattle.wheel.specs.declared.Wheel.{Wheel}
 use Rattle.wheel.specs.Hung as hung
-use Rattle.wheel.specs.Wheels.{wheelOf, idsOf, first, rest}
-use Rattle.wheel.specs.Inside.{startedIn, stoppedIn, tickedIn}
+use Rattle.wheel.specs.Promise.{wheelOf, startedIn, stoppedIn, tickedIn, idsOf, first, rest}
 use Rattle.calls.specs.declared.Call.{Call}
 use Rattle.calls.specs.declared.Call.the-variants.{Start, CreateThread, CreateMutex, CreateCondition, CreateTimer, Acquire, Release, Wait, Signal, Broadcast, StartTimer, StopTimer, Tick}
 use Rattle.calls.specs.declared.Kind.{Kind}
@@ -36,17 +37,13 @@ abbrev pub kindCode : Kind → ℕ
 kindCode OneShot = 1
 kindCode Periodic = 2
 
--- the length in ticks of a delay, 0 where it is out of range
-unfoldable pub lengthCode : Micros → ℕ
-lengthCode v = cond (outside 1 65535 (ticksIn (v .0))) 0 (ticksIn (v .0))
-
 -- the row of a stopped timer
 abbrev pub stoppedRow : Timer
-stoppedRow = record { state = 0; condition = 255; length = 0 }
+stoppedRow = record { state = 0; condition = 255; length = inTicks 0 }
 
 -- a row that is not there
 abbrev pub noTimer : Timer
-noTimer = record { state = 0; condition = 0; length = 0 }
+noTimer = record { state = 0; condition = 0; length = inTicks 0 }
 
 -- the row of timer i
 abbrev pub timerOf : Engine → ℕ → Timer
@@ -162,11 +159,15 @@ broadcastModel x c =
     let g = scheduler.broadcastModel 32 0 (x .scheduler) c in
     judged (idVerdict (x .started) (x .conditions) c) x (withScheduler x (g .scheduler)) (g .left)
 
+-- the engine with timer id started for condition variable c with this length; out of range nothing changes
+abbrev pub timerStarted : Engine → ℕ → ℕ → Kind → Length → Engine
+timerStarted x id c kind OutOfRange = x
+timerStarted x id c kind (Whole n) = withTimer x id (record { state = kindCode kind; condition = c; length = n }) (startedIn (x .wheel) id (n .0))
+
 -- start timer id for condition variable c
 unfoldable pub startTimerModel : Engine → ℕ → ℕ → Kind → Micros → Stepped
 startTimerModel x id c kind v =
-    judged (firstOf (idsVerdict (x .started) (x .clocks) id (x .conditions) c) (delayVerdict v (timerOf x id .state))) x
-    (withTimer x id (record { state = kindCode kind; condition = c; length = lengthCode v }) (startedIn (x .wheel) id (lengthCode v))) 255
+    judged (firstOf (idsVerdict (x .started) (x .clocks) id (x .conditions) c) (delayVerdict (lengthOf v) (timerOf x id .state))) x (timerStarted x id c kind (lengthOf v)) 255
 
 -- stop timer id
 unfoldable pub stopTimerModel : Engine → ℕ → Stepped
@@ -177,7 +178,7 @@ unfoldable pub serveModel : Engine → ℕ → Engine
 serveModel x id =
     let row = timerOf x id in
     let signalled = withScheduler x (scheduler.signalModel (x .scheduler) (row .condition) .scheduler) in
-    cond (eqb (row .state) 2) (withWheel signalled (startedIn (x .wheel) id (row .length))) (withTimer signalled id stoppedRow (x .wheel))
+    cond (eqb (row .state) 2) (withWheel signalled (startedIn (x .wheel) id (row .length .0))) (withTimer signalled id stoppedRow (x .wheel))
 
 -- the timers of a list are served, at most fuel of them, where n are served already
 unfoldable pub serveAllModel : ℕ → ℕ → Engine → List ℕ → Effect

@@ -4,8 +4,9 @@ use Prim.Native.Nat.{ℕ, _%_}
 use mathlib.Core.List.{List}
 use lib.ListN.{length}
 use Rattle.laws.specs.Lists.{tabulate}
+use Rattle.units.specs.Units.{inTicks}
 use Rattle.wheel.specs.Hung.{Hung}
-use Rattle.wheel.specs.Wheels.{wheelOf}
+use Rattle.wheel.specs.Promise.{wheelOf}
 use Rattle.rules.specs.State as rules
 use Rattle.rules.specs.State.{State, timer}
 use Rattle.rules.specs.Page.{timerCode}
@@ -15,9 +16,13 @@ use Rattle.engine.specs.declared.Timer.{Timer}
 use Rattle.engine.specs.declared.Engine.{Engine}
 use Rattle.engine.specs.declared.Stepped.{Stepped}
 
+-- the engine's row of a timer
+abbrev pub rowOfTimer : rules.Timer → Timer
+rowOfTimer x = record { state = timerCode (x .state); condition = x .condition; length = inTicks (x .length) }
+
 -- the row of timer i
 abbrev pub timerIn : List rules.Timer → ℕ → Timer
-timerIn ts i = record { state = timerCode (timer ts i .state); condition = timer ts i .condition; length = timer ts i .length }
+timerIn ts i = rowOfTimer (timer ts i)
 
 -- the ticks left of all timers, at a tick count
 abbrev pub hungOf : ℕ → List rules.Timer → Hung

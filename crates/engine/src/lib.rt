@@ -18,7 +18,6 @@ use units::Ticks;
 use units::ticks_of;
 use verdicts::acquire_verdict;
 use verdicts::created_verdict;
-use verdicts::delay_verdict;
 use verdicts::first_of;
 use verdicts::held_verdict;
 use verdicts::id_verdict;
@@ -26,6 +25,7 @@ use verdicts::ids_verdict;
 use verdicts::owned_by;
 use verdicts::release_verdict;
 use verdicts::room_verdict;
+use verdicts::start_timer_verdict;
 use verdicts::start_verdict;
 use verdicts::stop_verdict;
 use wheel::Due;
@@ -38,14 +38,14 @@ ghost use Rattle.rules.specs.State.{State, boot};
 ghost use Rattle.rules.specs.Sound.{sound};
 ghost use Rattle.rules.specs.Step.{step, stepDecoded};
 ghost use Rattle.engine.specs.Stands.{engineOf, steppedOf};
-ghost use Rattle.wheel.specs.Wheels.{idsOf};
-ghost use Rattle.engine.specs.Models.{bootModel, kindCode, lengthCode, refusedModel, answeredModel, startModel, createThreadModel, createMutexModel, createConditionModel, createTimerModel, acquireModel, releaseModel, waitModel, signalModel, broadcastModel, startTimerModel, stopTimerModel, serveModel, serveAllModel, tickModel, stepModel};
+ghost use Rattle.wheel.specs.Promise.{idsOf};
+ghost use Rattle.engine.specs.Models.{bootModel, kindCode, refusedModel, answeredModel, startModel, createThreadModel, createMutexModel, createConditionModel, createTimerModel, acquireModel, releaseModel, waitModel, signalModel, broadcastModel, startTimerModel, stopTimerModel, serveModel, serveAllModel, tickModel, stepModel};
 
 // A timer's row: its state (0 stopped, 1 one-shot, 2 periodic), its condition variable, 255 for none, and its length in ticks.
 pub struct Timer {
     pub state: u8,
     pub condition: u8,
-    pub length: u16,
+    pub length: Ticks,
 }
 
 // The whole engine. The four counts say how many rows of each table are in use.
@@ -80,17 +80,6 @@ pub fn state_of(kind: Kind) -> u8
     match kind {
         Kind::OneShot => 1,
         Kind::Periodic => 2,
-    }
-}
-
-// The length in ticks of a delay, 0 where it is out of range.
-pub fn length_of(v: Micros) -> u16
-    ensures { λ r. ⌜ r ≡ lengthCode v ⌝ }
-{
-    let length = ticks_of(v);
-    match length {
-        Length::Whole(n) => n.0,
-        Length::OutOfRange => 0,
     }
 }
 
@@ -138,7 +127,7 @@ impl Engine {
         let stopped = Timer {
             state: 0,
             condition: 255,
-            length: 0,
+            length: Ticks(0),
         };
         let timers = [stopped; 32];
         let wheel = Wheel::empty(0);
@@ -377,13 +366,16 @@ impl Engine {
         let i = (id % 32) as usize;
         let row = self.timers[i];
         let ids = ids_verdict(self.started, self.clocks, id, self.conditions, c);
-        let delay = delay_verdict(v, row.state);
-        let verdict = first_of(ids, delay);
+        let Length::Whole(length) = ticks_of(v) else {
+            let refusal = first_of(ids, Verdict::OutOfRange);
+            return self.refused(refusal);
+        };
+        let stopped = start_timer_verdict(row.state);
+        let verdict = first_of(ids, stopped);
         let n = number(verdict);
         if n != 0 {
             return self.refused(verdict);
         }
-        let length = length_of(v);
         let state = state_of(kind);
         self.timers[i] = Timer {
             state,
@@ -391,7 +383,7 @@ impl Engine {
             length,
         };
         let wheel = self.wheel;
-        let after = wheel.start(id, Ticks(length));
+        let after = wheel.start(id, length);
         self.wheel = after;
         self.answered(255, false)
     }
@@ -412,7 +404,7 @@ impl Engine {
         self.timers[i] = Timer {
             state: 0,
             condition: 255,
-            length: 0,
+            length: Ticks(0),
         };
         let wheel = self.wheel;
         let after = wheel.stop(id);
@@ -432,14 +424,14 @@ impl Engine {
         self.scheduler = after;
         if row.state == 2 {
             let wheel = self.wheel;
-            let again = wheel.start(id, Ticks(row.length));
+            let again = wheel.start(id, row.length);
             self.wheel = again;
             return self;
         }
         self.timers[i] = Timer {
             state: 0,
             condition: 255,
-            length: 0,
+            length: Ticks(0),
         };
         self
     }

@@ -2,7 +2,7 @@
 -- Assumes nothing.
 use Prim.Native.Nat.{ℕ}
 use mathlib.Core.List.{List, [], _∷_}
-use lib.ListN.{getD, set, take}
+use lib.ListN.{set, take}
 use Rattle.calls.specs.Answers.{numberOf}
 use Rattle.rules.specs.State.{boot}
 use Rattle.rules.specs.Examples.{Example, table}
@@ -10,8 +10,7 @@ use Rattle.saved.specs.Record.{bootRecord}
 use Rattle.saved.specs.Loading.{load, saved}
 use Rattle.wheel.specs.declared.Wheel.{Wheel}
 use Rattle.wheel.specs.Hung.{empty}
-use Rattle.wheel.specs.Wheels.{wheelOf, idsOf}
-use Rattle.wheel.specs.Inside.{startedIn, tickedIn}
+use Rattle.wheel.specs.Promise.{wheelOf, startedIn, tickedIn, positionIn, spokeIn, turnsIn, idsOf}
 
 -- the number that a load answers
 abbrev pub loadAnswer : List ℕ → ℕ
@@ -23,11 +22,11 @@ begun count n = startedIn (wheelOf (empty count)) 0 n
 
 -- the spoke and the turns of timer 0
 abbrev pub spokeAndTurns : Wheel → List ℕ
-spokeAndTurns w = getD (w .spoke) 0 0 ∷ getD (w .turns) 0 0 ∷ []
+spokeAndTurns w = spokeIn w 0 ∷ turnsIn w 0 ∷ []
 
 -- the count after a tick, as the wheel has it, and who comes due at it
 abbrev pub countAndDue : Wheel → List ℕ
-countAndDue w = tickedIn w .wheel .position ∷ idsOf (tickedIn w .due)
+countAndDue w = positionIn (tickedIn w .wheel) ∷ idsOf (tickedIn w .due)
 
 -- the table
 unfoldable pub marked : List Example

@@ -6,11 +6,8 @@ use mathlib.Core.List.{List, [], _∷_}
 use native.Mathlib.Omega.{arith}
 use lib.ListN.{length, getD, set}
 use borrow.Author.Tests.{eq-eqb, ne-eqb}
-use Rattle.laws.specs.Bits.{holds}
 use Rattle.wheel.specs.declared.Wheel.{Wheel}
-use Rattle.wheel.specs.declared.Due.{Due}
-use Rattle.wheel.specs.Wheels.{idsOf, first, rest}
-use Rattle.wheel.specs.Inside.{startedIn}
+use Rattle.wheel.specs.Promise.{startedIn, first, rest}
 use Rattle.scheduler.specs.declared.Scheduler.{Scheduler}
 use Rattle.scheduler.specs.Models.{signalModel}
 use Rattle.cells.specs.Cells.{schedulerIn}
@@ -19,17 +16,11 @@ use Rattle.engine.specs.declared.Engine.{Engine}
 use Rattle.engine.specs.declared.Effect.{Effect}
 use Rattle.engine.specs.declared.Timer.{Timer}
 use Rattle.engine.specs.Models.{noTimer, stoppedRow, serveModel}
-use Rattle.engine.proofs.Dues.{few-among}
 use Rattle.engine.proofs.Serving.{onFrom, serve-on, serve-none, serve-full}
 use Rattle.plain.specs.declared.Counts.{Counts}
 use Rattle.plain.specs.Standing.{engineIn}
 
 -- ---- the ids that are left
-
--- a due set has at most 32
-pub few : (d : Due) → length (idsOf d) ≤ 32
-unfolding idsOf
-few d = few-among 32 (λ i. holds i (d .ids))
 
 -- with a first there is one less in the rest
 pub one-less : (ids : List ℕ) → first ids < 32 → length ids ≡ length (rest ids) + 1

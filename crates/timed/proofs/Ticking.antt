@@ -6,8 +6,7 @@ use mathlib.Core.Bool.{true, false}
 use native.Mathlib.Omega.{arith}
 use Rattle.laws.specs.Bools.{cond-true, cond-false}
 use Rattle.wheel.specs.declared.Ticked.{Ticked}
-use Rattle.wheel.specs.Wheels.{idsOf, first}
-use Rattle.wheel.specs.Inside.{tickedIn}
+use Rattle.wheel.specs.Promise.{tickedIn, idsOf, first}
 use Rattle.calls.specs.declared.Answer.{Answer}
 use Rattle.calls.specs.declared.Verdict.the-variants.{Stopped}
 use Rattle.calls.specs.Answers.{numberOf}

@@ -20,7 +20,7 @@ use verdicts::ids_verdict;
 use verdicts::stop_verdict;
 use wheel::Due;
 ghost use mathlib.Core.Path.{_≡_};
-ghost use Rattle.wheel.specs.Wheels.{idsOf};
+ghost use Rattle.wheel.specs.Promise.{idsOf};
 ghost use Rattle.engine.specs.Models.{startTimerModel, stopTimerModel, serveAllModel, tickModel};
 ghost use Rattle.plain.specs.declared.Counts.{Counts};
 ghost use Rattle.plain.specs.Standing.{engineIn, steppedIn};

@@ -5,8 +5,10 @@ use Prim.Native.Nat.{ℕ, _+_}
 use mathlib.Core.Bool.{Bool, cond, not, _||_, _&&_}
 use mathlib.Core.List.{List, [], _∷_}
 use lib.Dec.{eqb, ltb, leb}
-use Rattle.units.specs.declared.Micros.{Micros}
-use Rattle.units.specs.Units.{ticksIn, outside}
+use Rattle.units.specs.declared.Length.{Length}
+use Rattle.units.specs.declared.Length.the-variants as length
+use Rattle.units.specs.declared.Length.the-variants.{Whole}
+use Rattle.units.specs.Units.{outside}
 use Rattle.scheduler.specs.declared.Mutex.{Mutex}
 use Rattle.calls.specs.declared.Verdict.{Verdict}
 use Rattle.calls.specs.declared.Verdict.the-variants.{Stopped, AlreadyStarted, NoSuchId, IdleCaller, OutOfRange, TableFull, AboveCeiling, NotOwner, CountFull, HoldingMore, TiedElsewhere, TimerRunning, TimerStopped}
@@ -54,9 +56,14 @@ idsVerdict started first i second j = verdict ((not started ⇒ Stopped) ∷ (le
 unfoldable pub idVerdict : Bool → ℕ → ℕ → Verdict
 idVerdict started count i = verdict ((not started ⇒ Stopped) ∷ (leb count i ⇒ NoSuchId) ∷ [])
 
--- whether a timer of this state can start with this delay
-unfoldable pub delayVerdict : Micros → ℕ → Verdict
-delayVerdict v state = verdict ((outside 1 65535 (ticksIn (v .0)) ⇒ OutOfRange) ∷ (not (eqb state 0) ⇒ TimerRunning) ∷ [])
+-- whether a timer of this state can start
+unfoldable pub startTimerVerdict : ℕ → Verdict
+startTimerVerdict state = verdict ((not (eqb state 0) ⇒ TimerRunning) ∷ [])
+
+-- whether it can with a delay of this length
+unfoldable pub delayVerdict : Length → ℕ → Verdict
+delayVerdict length.OutOfRange state = OutOfRange
+delayVerdict (Whole n) state = startTimerVerdict state
 
 -- whether a timer of this state can stop
 unfoldable pub stopVerdict : ℕ → Verdict

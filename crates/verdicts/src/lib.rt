@@ -2,11 +2,8 @@
 use calls::Verdict;
 use calls::number;
 use scheduler::Mutex;
-use units::Length;
-use units::Micros;
-use units::ticks_of;
 ghost use mathlib.Core.Path.{_≡_};
-ghost use Rattle.verdicts.specs.Models.{createdVerdict, roomVerdict, startVerdict, acquireVerdict, releaseVerdict, heldVerdict, idsVerdict, firstOf, idVerdict, delayVerdict, stopVerdict, ownedOne, ownedIn};
+ghost use Rattle.verdicts.specs.Models.{createdVerdict, roomVerdict, startVerdict, acquireVerdict, releaseVerdict, heldVerdict, idsVerdict, firstOf, idVerdict, startTimerVerdict, stopVerdict, ownedOne, ownedIn};
 
 // Whether a thread or a mutex can be created.
 pub fn created_verdict(value: u8, count: u8, limit: u8) -> Verdict
@@ -157,21 +154,14 @@ pub fn id_verdict(started: bool, count: u8, i: u8) -> Verdict
     Verdict::Done
 }
 
-// Whether a timer of this state can start with this delay.
-pub fn delay_verdict(v: Micros, state: u8) -> Verdict
-    ensures { λ r. ⌜ r ≡ delayVerdict v state ⌝ }
+// Whether a timer of this state can start.
+pub fn start_timer_verdict(state: u8) -> Verdict
+    ensures { λ r. ⌜ r ≡ startTimerVerdict state ⌝ }
 {
-    let length = ticks_of(v);
-    match length {
-        Length::OutOfRange => Verdict::OutOfRange,
-        Length::Whole(_) => {
-            if state == 0 {
-                Verdict::Done
-            } else {
-                Verdict::TimerRunning
-            }
-        }
+    if state != 0 {
+        return Verdict::TimerRunning;
     }
+    Verdict::Done
 }
 
 // Whether a timer of this state can stop.

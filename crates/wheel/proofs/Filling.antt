@@ -1,25 +1,16 @@
--- A wheel filled from a row of ticks left: starting each timer in turn, from a wheel with every timer stopped, hangs the row.
+-- Ticks left filled from a row: starting each timer in turn, from all stopped, hangs the row.
 -- Assumes nothing.
 use Prim.Native.Nat.{ℕ, suc, _<_, _%_}
 use mathlib.Core.Path.{_≡_, refl, sym}
-use mathlib.Core.Bool.{Bool, cond}
 use mathlib.Core.List.{List}
 use native.Mathlib.Omega.{arith}
 use lib.ListN.{getD}
-use lib.Dec.{eqb, ltb}
+use lib.Dec.{eqb}
 use borrow.Author.Tests.{eqb-true, eqb-false, lt-ltb, le-ltb}
 use Rattle.laws.specs.Lists.{tabulate}
 use Rattle.laws.specs.Bools.{by-cases}
-use Rattle.wheel.specs.Hung.{Hung, empty, withLeft, started}
+use Rattle.wheel.specs.Hung.{empty, given, filled, withLeft, started}
 use Rattle.wheel.proofs.Visits.{unchanged, changed, at-k}
-
--- the ticks left of a timer of the row if it is seen, and none if not
-abbrev given : List ℕ → Bool → ℕ → ℕ
-given row seen i = cond seen (getD row i 0) 0
-
--- the timers below k hung as in the row, the others stopped
-abbrev pub filled : ℕ → List ℕ → ℕ → Hung
-filled p row k = record { position = p; lefts = tabulate 32 (λ i. given row (ltb i k) i) }
 
 -- at first every timer is stopped
 pub fill-none : (count : ℕ) (row : List ℕ) → filled (count % 64) row 0 ≡ empty count

@@ -1,12 +1,11 @@
--- A timer on the wheel: one timer's ticks left changed, and from it start, stop and the ticks left.
+-- A timer in the tables: one timer's ticks left changed, and from it start, stop and the ticks left.
 -- Assumes nothing.
 use Prim.Native.Nat.{ℕ, _+_, _-_, _%_, _<_, _≤_}
-use mathlib.Core.Path.{_≡_, refl, sym, ap, _∙_}
+use mathlib.Core.Path.{_≡_, refl, sym, _∙_}
 use mathlib.Core.Bool.{Bool, true, false, xor, _||_}
 use mathlib.Core.List.{List}
 use native.Mathlib.Omega.{arith}
-use lib.ListN.{length, getD, set, List·getD-eq-default}
-use lib.Seq.{getD-set-same, getD-set-other, set-getD}
+use lib.ListN.{length, getD, set}
 use lib.Dec.{eqb, ltb}
 use lib.Bits.{bitOr, bitXor}
 use borrow.Author.Tests.{eq-eqb, ne-eqb, eqb-true, eqb-false, lt-ltb, le-ltb, lt-leb, le-leb, ltb-true, ltb-false}
@@ -14,49 +13,37 @@ use Rattle.laws.specs.Lists.{getD-tabulate, set-tabulate-below, tabulate}
 use Rattle.laws.specs.Bools.{by-cases, or-false, or-right}
 use Rattle.laws.specs.Bits.{wordOf, word-same, or-words, xor-words, xor-false}
 use Rattle.wheel.specs.declared.Wheel.{Wheel}
-use Rattle.wheel.specs.Hung.{Hung, Good, left, withLeft, started, stopped}
-use Rattle.wheel.specs.Wheels.{spokeOf, turnsOf, hangs, wheelOf}
-use Rattle.wheel.specs.Inside.{bitOf, hungOn, startedIn, takenOff, stoppedIn, leftIn}
+use Rattle.wheel.specs.Hung.{Hung, Good, left, withLeft, started, stopped, spokeOf, turnsOf, hangs}
+use Rattle.wheel.specs.Inside.{tablesOf, bitOf, hungOn, hungIn, takenOff, takenIn, wayIn}
+use Rattle.wheel.proofs.Lefts.{left-same, left-other, position-same, stopped-same, left-past}
 use Rattle.wheel.proofs.Turning.{off, none, on, way}
 use Rattle.wheel.proofs.Visits.{bit-word}
 
 -- ---- one timer's ticks left changed
 
 module _ (h : Hung) (i r : ℕ) where
-  pub left-same : i < length (h .lefts) → left (withLeft h i r) i ≡ r
-  unfolding withLeft
-  left-same l = getD-set-same (h .lefts) i r 0 l
-
-  pub left-other : (j : ℕ) → (j ≡ i → ⊥) → left (withLeft h i r) j ≡ left h j
-  unfolding withLeft
-  left-other j n = getD-set-other (h .lefts) i j r 0 n
-
-  position-same : withLeft h i r .position ≡ h .position
-  unfolding withLeft
-  position-same = refl
-
   -- the others hang where they did
   hangs-other : (s j : ℕ) → (j ≡ i → ⊥) → hangs h s j ≡ hangs (withLeft h i r) s j
   unfolding hangs
-  hangs-other s j n = rw (left-other j n, position-same)
+  hangs-other s j n = rw (left-other h i r j n, position-same h i r)
 
   hangs-same : (s : ℕ) → i < length (h .lefts) → hangs (withLeft h i r) s i ≡ eqb (spokeOf (h .position) r) s
   unfolding hangs
-  hangs-same s l = rw (left-same l, position-same)
+  hangs-same s l = rw (left-same h i r l, position-same h i r)
 
   -- a tabulate of what each timer's ticks left make has one entry changed
   entry-changed : (f : ℕ → ℕ) → i < length (h .lefts) → i < 32 → (v : ℕ) → v ≡ f r
       → set (tabulate 32 (λ j. f (left h j))) i v ≡ tabulate 32 (λ j. f (left (withLeft h i r) j))
   entry-changed f m l v e =
-      set-tabulate-below 32 (λ j. f (left h j)) (λ j. f (left (withLeft h i r) j)) i v l (rw (left-same m) e) (λ j k o. rw (left-other j o))
+      set-tabulate-below 32 (λ j. f (left h j)) (λ j. f (left (withLeft h i r) j)) i v l (rw (left-same h i r m) e) (λ j k o. rw (left-other h i r j o))
 
   -- a wheel agrees with that of the changed timer if its spokes do, and the timer's own turns and spoke
-  changed : (g : Good h) → i < 32 → (spokes : List ℕ) → spokes ≡ wheelOf (withLeft h i r) .spokes
+  changed : (g : Good h) → i < 32 → (spokes : List ℕ) → spokes ≡ tablesOf (withLeft h i r) .spokes
       → (n s : ℕ) → n ≡ turnsOf r → s ≡ spokeOf (h .position) r
       → _≡_ {A = Wheel}
-      (record { spokes = spokes; turns = set (wheelOf h .turns) i n; spoke = set (wheelOf h .spoke) i s; position = wheelOf h .position })
-      (wheelOf (withLeft h i r))
-  unfolding wheelOf withLeft
+      (record { spokes = spokes; turns = set (tablesOf h .turns) i n; spoke = set (tablesOf h .spoke) i s; position = tablesOf h .position })
+      (tablesOf (withLeft h i r))
+  unfolding tablesOf withLeft
   changed g l spokes e n s p q =
       let m : i < length (h .lefts) = omega (arith, g .timers) in
       let a = entry-changed turnsOf m l n p in
@@ -75,8 +62,8 @@ module _ (h : Hung) (i r : ℕ) where
       → ((j : ℕ) → (j ≡ i → ⊥) → p j ≡ hangs h s j)
       → p i ≡ hangs (withLeft h i r) s i
       → ((z : ℕ) → z < 64 → (z ≡ s → ⊥) → hangs h z i ≡ hangs (withLeft h i r) z i)
-      → set (wheelOf h .spokes) s w ≡ wheelOf (withLeft h i r) .spokes
-  unfolding wheelOf
+      → set (tablesOf h .spokes) s w ≡ tablesOf (withLeft h i r) .spokes
+  unfolding tablesOf
   spokes-changed s w p k e a b o =
       let here : wordOf 32 p ≡ wordOf 32 (hangs (withLeft h i r) s) = word-but p s (λ j n. a j n ∙ hangs-other s j n) b in
       set-tabulate-below 64 (λ z. wordOf 32 (hangs h z)) (λ z. wordOf 32 (hangs (withLeft h i r) z)) s w k (e ∙ here)
@@ -84,20 +71,20 @@ module _ (h : Hung) (i r : ℕ) where
 
 -- what the operations read of a timer and a spoke
 module _ (h : Hung) where
-  pub spoke-word : (s : ℕ) → s < 64 → getD (wheelOf h .spokes) s 0 ≡ wordOf 32 (hangs h s)
-  unfolding wheelOf
+  pub spoke-word : (s : ℕ) → s < 64 → getD (tablesOf h .spokes) s 0 ≡ wordOf 32 (hangs h s)
+  unfolding tablesOf
   spoke-word s l = getD-tabulate 64 (λ z. wordOf 32 (hangs h z)) s 0 l
 
-  spoke-at : (i : ℕ) → i < 32 → getD (wheelOf h .spoke) i 0 ≡ spokeOf (h .position) (left h i)
-  unfolding wheelOf
+  pub spoke-at : (i : ℕ) → i < 32 → getD (tablesOf h .spoke) i 0 ≡ spokeOf (h .position) (left h i)
+  unfolding tablesOf
   spoke-at i l = getD-tabulate 32 (λ j. spokeOf (h .position) (left h j)) i 0 l
 
-  turns-at : (i : ℕ) → i < 32 → getD (wheelOf h .turns) i 0 ≡ turnsOf (left h i)
-  unfolding wheelOf
+  pub turns-at : (i : ℕ) → i < 32 → getD (tablesOf h .turns) i 0 ≡ turnsOf (left h i)
+  unfolding tablesOf
   turns-at i l = getD-tabulate 32 (λ j. turnsOf (left h j)) i 0 l
 
-  pub position-at : wheelOf h .position ≡ h .position
-  unfolding wheelOf
+  pub position-at : tablesOf h .position ≡ h .position
+  unfolding tablesOf
   position-at = refl
 
   -- whether a timer of known spoke hangs on s
@@ -122,24 +109,24 @@ standing h i =
     (λ l. past (ltb-false i 32 l))
 
 -- a stopped timer's spoke is none, a running timer's one of the 64
-spoke-still : (h : Hung) (i : ℕ) → i < 32 → left h i ≡ 0 → getD (wheelOf h .spoke) i 0 ≡ 255
+spoke-still : (h : Hung) (i : ℕ) → i < 32 → left h i ≡ 0 → getD (tablesOf h .spoke) i 0 ≡ 255
 spoke-still h i l e = spoke-at h i l ∙ rw (e, none (h .position))
 
-spoke-runs : (h : Hung) (i : ℕ) → i < 32 → 0 < left h i → getD (wheelOf h .spoke) i 0 < 64
+spoke-runs : (h : Hung) (i : ℕ) → i < 32 → 0 < left h i → getD (tablesOf h .spoke) i 0 < 64
 spoke-runs h i l k = rw (spoke-at h i l, on (h .position) (left h i) k) (omega arith)
 
 -- ---- start
 
 module _ (h : Hung) (g : Good h) (i n : ℕ) where
   -- a stopped timer hung on the spoke of n ticks
-  hung-on : (s : ℕ) → s ≡ (h .position + n) % 64 → i < 32 → left h i ≡ 0 → 0 < n → hungOn (wheelOf h) i n s ≡ wheelOf (withLeft h i n)
+  hung-on : (s : ℕ) → s ≡ (h .position + n) % 64 → i < 32 → left h i ≡ 0 → 0 < n → hungOn (tablesOf h) i n s ≡ tablesOf (withLeft h i n)
   unfolding hungOn
   hung-on s d l e k =
       let m : i < length (h .lefts) = omega (arith, g .timers) in
       let at : spokeOf (h .position) n ≡ s = on (h .position) n k ∙ sym d in
       let new : (z : ℕ) → hangs (withLeft h i n) z i ≡ eqb s z = λ z. hangs-same h i n z m ∙ rw at in
       let old : (z : ℕ) → hangs h z i ≡ eqb 255 z = λ z. hangs-at h i z 255 (rw e (none (h .position))) in
-      changed h i n g l (set (wheelOf h .spokes) s (bitOr (getD (wheelOf h .spokes) s 0) (bitOf i)))
+      changed h i n g l (set (tablesOf h .spokes) s (bitOr (getD (tablesOf h .spokes) s 0) (bitOf i)))
       (spokes-changed h i n s _ (λ j. hangs h s j || eqb j i) (omega arith)
       (rw (spoke-word h s (omega arith), bit-word i l) (or-words 32 (hangs h s) (λ j. eqb j i)))
       (λ j o. rw (ne-eqb j i o) (or-false (hangs h s j)))
@@ -147,8 +134,8 @@ module _ (h : Hung) (g : Good h) (i n : ℕ) where
       (λ z b o. rw (new z, old z, ne-eqb 255 z (λ y. omega arith)) (sym (ne-eqb s z (λ y. o (sym y))))))
       (turnsOf n) s refl (sym at)
 
-  start-by : Standing h i → startedIn (wheelOf h) i n ≡ wheelOf (started h i n)
-  unfolding startedIn started
+  start-by : Standing h i → hungIn (tablesOf h) i n ≡ tablesOf (started h i n)
+  unfolding hungIn started
   start-by (past l) = rw (le-leb 32 i l, le-ltb i 32 l)
   start-by (runs l k) =
       rw (lt-leb 32 i l, lt-ltb i 32 l, lt-ltb _ 64 (spoke-runs h i l k), ne-eqb (left h i) 0 (λ z. omega arith))
@@ -158,22 +145,22 @@ module _ (h : Hung) (g : Good h) (i n : ℕ) where
       (λ z. rw (z, le-ltb 0 n (omega (arith, eqb-true n 0 z))))
       (λ z. rw (z, lt-ltb 0 n (omega (arith, eqb-false n 0 z))) (hung-on _ (rw (position-at h)) l e (omega (arith, eqb-false n 0 z)))))
 
-  -- starting on the wheel is starting
-  pub start-hangs : startedIn (wheelOf h) i n ≡ wheelOf (started h i n)
-  start-hangs = start-by (standing h i)
+  -- starting in the tables is starting
+  pub start-inside : hungIn (tablesOf h) i n ≡ tablesOf (started h i n)
+  start-inside = start-by (standing h i)
 
 -- ---- stop
 
 module _ (h : Hung) (g : Good h) (i : ℕ) where
   -- a running timer taken off its spoke
-  taken-off : (s : ℕ) → s ≡ spokeOf (h .position) (left h i) → i < 32 → 0 < left h i → takenOff (wheelOf h) i s ≡ wheelOf (stopped h i)
+  taken-off : (s : ℕ) → s ≡ spokeOf (h .position) (left h i) → i < 32 → 0 < left h i → takenOff (tablesOf h) i s ≡ tablesOf (stopped h i)
   unfolding takenOff turnsOf xor stopped
   taken-off s d l k =
       let m : i < length (h .lefts) = omega (arith, g .timers) in
       let a : s < 64 = omega (arith, on (h .position) (left h i) k) in
       let new : (z : ℕ) → z < 64 → hangs (withLeft h i 0) z i ≡ false = λ z b. hangs-same h i 0 z m ∙ off (h .position) z b in
       let old : (z : ℕ) → hangs h z i ≡ eqb s z = λ z. hangs-at h i z s (sym d) in
-      changed h i 0 g l (set (wheelOf h .spokes) s (bitXor (getD (wheelOf h .spokes) s 0) (bitOf i)))
+      changed h i 0 g l (set (tablesOf h .spokes) s (bitXor (getD (tablesOf h .spokes) s 0) (bitOf i)))
       (spokes-changed h i 0 s _ (λ j. xor (hangs h s j) (eqb j i)) a
       (rw (spoke-word h s a, bit-word i l) (xor-words 32 (hangs h s) (λ j. eqb j i)))
       (λ j o. rw (ne-eqb j i o) (xor-false (hangs h s j)))
@@ -181,32 +168,21 @@ module _ (h : Hung) (g : Good h) (i : ℕ) where
       (λ z b o. rw (new z b, old z) (ne-eqb s z (λ y. o (sym y)))))
       0 255 refl (sym (none (h .position)))
 
-  -- stopping a stopped timer changes nothing
-  pub stopped-same : left h i ≡ 0 → stopped h i ≡ h
-  unfolding stopped withLeft
-  stopped-same e =
-      let p : set (h .lefts) i 0 ≡ h .lefts = ap (λ (r : ℕ). set (h .lefts) i r) (sym e) ∙ set-getD (h .lefts) i 0 in
-      λ x. record { position = h .position; lefts = p x }
-
-  -- an id that is none of the 32 has no ticks left
-  pub left-past : 32 ≤ i → left h i ≡ 0
-  left-past l = List·getD-eq-default (h .lefts) 0 (omega (arith, g .timers))
-
-  stop-by : Standing h i → stoppedIn (wheelOf h) i ≡ wheelOf (stopped h i)
-  unfolding stoppedIn
-  stop-by (past l) = rw (le-leb 32 i l, stopped-same (left-past l))
-  stop-by (still l e) = rw (lt-leb 32 i l, spoke-still h i l e, stopped-same e)
+  stop-by : Standing h i → takenIn (tablesOf h) i ≡ tablesOf (stopped h i)
+  unfolding takenIn
+  stop-by (past l) = rw (le-leb 32 i l, stopped-same h i (left-past h g i l))
+  stop-by (still l e) = rw (lt-leb 32 i l, spoke-still h i l e, stopped-same h i e)
   stop-by (runs l k) = rw (lt-leb 32 i l, lt-leb 64 _ (spoke-runs h i l k)) (taken-off _ (spoke-at h i l) l k)
 
-  -- stopping on the wheel is stopping
-  pub stop-hangs : stoppedIn (wheelOf h) i ≡ wheelOf (stopped h i)
-  stop-hangs = stop-by (standing h i)
+  -- stopping in the tables is stopping
+  pub stop-inside : takenIn (tablesOf h) i ≡ tablesOf (stopped h i)
+  stop-inside = stop-by (standing h i)
 
   -- ---- ticks left
 
-  left-by : Standing h i → leftIn (wheelOf h) i ≡ left h i
-  unfolding leftIn
-  left-by (past l) = rw (le-leb 32 i l) (sym (left-past l))
+  left-by : Standing h i → wayIn (tablesOf h) i ≡ left h i
+  unfolding wayIn
+  left-by (past l) = rw (le-leb 32 i l) (sym (left-past h g i l))
   left-by (still l e) = rw (lt-leb 32 i l, spoke-still h i l e) (sym e)
   left-by (runs l k) =
       rw (
@@ -219,6 +195,6 @@ module _ (h : Hung) (g : Good h) (i : ℕ) where
       )
       (way (h .position) (left h i) (g .place) k (g .short i))
 
-  -- the ticks left on the wheel are the ticks left
-  pub left-hung : leftIn (wheelOf h) i ≡ left h i
-  left-hung = left-by (standing h i)
+  -- the ticks left in the tables are the ticks left
+  pub left-inside : wayIn (tablesOf h) i ≡ left h i
+  left-inside = left-by (standing h i)

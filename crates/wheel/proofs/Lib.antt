@@ -1,9 +1,11 @@
-pub mod Turning
-pub mod Visits
-pub mod Walk
-pub mod Hanging
-pub mod Ticking
-pub mod Dues
-pub mod Laws
-pub mod Filling
+pub mod Promise
 pub mod Theorems
+mod Lefts
+mod Turning
+mod Visits
+mod Walk
+mod Hanging
+mod Ticking
+mod Dues
+mod Laws
+mod Filling

@@ -1,28 +1,23 @@
 -- What the wheel is for: a timer started for n ticks comes due at the nth tick and at no other, whatever is done to the others;
--- a stopped one never does; the count's wrap changes nothing; and a wheel is determined by its position and the ticks left.
+-- a stopped one never does; the count's wrap changes nothing. All of it from the promise alone.
 -- Assumes nothing.
 use Prim.Native.Nat.{ℕ, suc, _+_, _-_, _%_, _<_}
 use mathlib.Core.Path.{_≡_, refl, sym, ap, _∙_}
 use mathlib.Core.Bool.{true, false}
 use mathlib.Core.List.{List, [], _∷_}
 use native.Mathlib.Omega.{arith}
-use lib.ListN.{length}
-use lib.Seq.{ext-getD}
 use lib.Dec.{eqb}
 use borrow.Author.Tests.{eq-eqb, ne-eqb, eqb-true, eqb-false, lt-ltb, ltb-true, not-true}
 use Rattle.laws.specs.Bools.{by-cases, and-left, and-right}
 use Rattle.laws.specs.Bits.{has, has-among}
 use Rattle.wheel.specs.declared.Wheel.{Wheel}
 use Rattle.wheel.specs.declared.Ticked.{Ticked}
-use Rattle.wheel.specs.Hung.{Hung, Good, left, empty, free, withLeft, started, stopped, ticked, due}
-use Rattle.wheel.specs.Wheels.{wheelOf, spokeOf, tickedOf}
-use Rattle.wheel.specs.Inside.{startedIn, stoppedIn, leftIn}
+use Rattle.wheel.specs.Hung.{Hung, Good, left, empty, free, withLeft, started, stopped, ticked, due, spokeOf}
+use Rattle.wheel.specs.Promise.{wheelOf, startedIn, stoppedIn, tickedOf}
 use Rattle.wheel.specs.Acts.{Act, Start, Stop, Tick, done, doneIn, all, allIn, ticking, ticks, spares, inRange, every, dueNext}
+use Rattle.wheel.proofs.Lefts.{left-same, left-other, stopped-same}
 use Rattle.wheel.proofs.Turning.{on}
-use Rattle.wheel.proofs.Hanging.{left-same, left-other, left-hung, start-hangs, stop-hangs, stopped-same, position-at}
-use Rattle.wheel.proofs.Ticking.{left-ticked, tick-hangs}
-use Rattle.wheel.proofs.Dues.{ids-due}
-use Rattle.wheel.proofs.Laws.{good-started, good-stopped, good-ticked}
+use Rattle.wheel.proofs.Promise.{start-hangs, stop-hangs, tick-hangs, left-ticked, ids-due, good-started, good-stopped, good-ticked}
 
 -- ---- one timer among the others
 
@@ -146,26 +141,6 @@ pub wrap-changes-nothing : (count : ℕ) (acts : List Act) → all (empty count)
 unfolding empty
 wrap-changes-nothing count acts = position-after acts (empty count) (omega arith) ∙ omega arith
 
--- a good wheel tells its position and its ticks left
-told : (h k : Hung) → Good h → Good k → wheelOf h .position ≡ wheelOf k .position
-    → ((i : ℕ) → i < 32 → leftIn (wheelOf h) i ≡ leftIn (wheelOf k) i) → h ≡ k
-told h k g f p e =
-    let r : h .position ≡ k .position = sym (position-at h) ∙ p ∙ position-at k in
-    let at : (i : ℕ) → i < length (h .lefts) → left h i ≡ left k i =
-    λ i l. sym (left-hung h g i) ∙ e i (omega (arith, g .timers)) ∙ left-hung k f i in
-    let q : h .lefts ≡ k .lefts = ext-getD 0 (h .lefts) (k .lefts) (g .timers ∙ sym (f .timers)) at in
-    λ x. record { position = r x; lefts = q x }
-
--- Two good wheels with the same position and the same ticks left are the same value.
-pub same-ticks-left-same-wheel : (h k : Hung) → Good h → Good k → wheelOf h .position ≡ wheelOf k .position
-    → ((i : ℕ) → i < 32 → leftIn (wheelOf h) i ≡ leftIn (wheelOf k) i) → wheelOf h ≡ wheelOf k
-same-ticks-left-same-wheel h k g f p e = ap wheelOf (told h k g f p e)
-
--- And a wheel stands for one position and one row of ticks left.
-pub same-wheel-same-ticks-left : (h k : Hung) → Good h → Good k → wheelOf h ≡ wheelOf k → h ≡ k
-same-wheel-same-ticks-left h k g f e =
-    told h k g f (ap (λ (w : Wheel). w .position) e) (λ i l. ap (λ (w : Wheel). leftIn w i) e)
-
 -- A timer that comes due is stopped by the tick and may be started again at once; with 64 it hangs on the spoke just visited, for the 64th tick.
 pub again-at-once : (h : Hung) → Good h → (i : ℕ) → i < 32 → has i (due h) ≡ true
     → (left (ticked h) i ≡ 0) × (left (started (ticked h) i 64) i ≡ 64) × (spokeOf (ticked h .position) 64 ≡ ticked h .position)
@@ -181,4 +156,4 @@ refused-changes-nothing h g i n e = start-hangs h g i n ∙ rw e
 
 -- Nor does a stop of a stopped timer, or of an id out of range, whose ticks left are 0 too.
 pub idle-stop-changes-nothing : (h : Hung) → Good h → (i : ℕ) → left h i ≡ 0 → stoppedIn (wheelOf h) i ≡ wheelOf h
-idle-stop-changes-nothing h g i e = stop-hangs h g i ∙ ap wheelOf (stopped-same h g i e)
+idle-stop-changes-nothing h g i e = stop-hangs h g i ∙ ap wheelOf (stopped-same h i e)

@@ -4,23 +4,18 @@ use Prim.Native.Nat.{ℕ, _+_, _-_, _%_, _<_}
 use mathlib.Core.Path.{_≡_, refl, sym, ap}
 use mathlib.Core.Bool.{xor}
 use native.Mathlib.Omega.{arith}
-use lib.ListN.{length, getD, set, List·getD-map}
+use lib.ListN.{length, getD, set}
 use lib.Dec.{eqb, ltb}
 use lib.Bits.{bitXor}
 use borrow.Author.Tests.{lt-ltb}
 use Rattle.laws.specs.Lists.{getD-tabulate, set-tabulate-below, tabulate, tabulate-below}
 use Rattle.laws.specs.Bits.{wordOf, among, members, word-same, xor-words, members-word}
-use Rattle.wheel.specs.Hung.{Hung, Good, left, ticked, due}
-use Rattle.wheel.specs.Wheels.{spokeOf, turnsOf, hangs, wheelOf, dueOf, onNext, tickedOf}
-use Rattle.wheel.specs.Inside.{midst, moved, cleared, tickedIn}
+use Rattle.wheel.specs.Hung.{Hung, Good, left, ticked, spokeOf, turnsOf, hangs, onNext}
+use Rattle.wheel.specs.Inside.{tablesOf, lastTick, midst, moved, cleared, turnedIn}
+use Rattle.wheel.proofs.Lefts.{left-ticked}
 use Rattle.wheel.proofs.Turning.{ends, kept, others, spoke-after, turns-after}
 use Rattle.wheel.proofs.Visits.{visited-below, begun, turn, atEnd, home, After}
 use Rattle.wheel.proofs.Hanging.{spoke-word, hangs-at}
-
--- every running timer has one tick less
-pub left-ticked : (h : Hung) (i : ℕ) → left (ticked h) i ≡ left h i - 1
-unfolding ticked
-left-ticked h i = List·getD-map (λ (r : ℕ). r - 1) (h .lefts) i 0
 
 -- the turns left to a timer, and its spoke
 abbrev turnsNow : Hung → ℕ → ℕ
@@ -31,11 +26,11 @@ spokeNow h i = spokeOf (h .position) (left h i)
 
 module _ (h : Hung) (g : Good h) (u : ℕ) (next : u ≡ (h .position + 1) % 64) where
   -- the wheel as the visits begin
-  begins : midst (moved (wheelOf h)) 0 0 ≡ After (wheelOf h .spokes) u (hangs h u) (turnsNow h) (spokeNow h) 0
-  unfolding moved wheelOf
+  begins : midst (moved (tablesOf h)) 0 0 ≡ After (tablesOf h .spokes) u (hangs h u) (turnsNow h) (spokeNow h) 0
+  unfolding moved tablesOf
   begins =
       let e : (h .position % 64 + 1) % 64 ≡ u = omega (arith, g .place) in
-      rw e (sym (begun (wheelOf h .spokes) u (hangs h u) (turnsNow h) (spokeNow h)))
+      rw e (sym (begun (tablesOf h .spokes) u (hangs h u) (turnsNow h) (spokeNow h)))
 
   -- a timer that is seen at its end is one with one tick left
   end-is-one : (i : ℕ) → i < 32 → atEnd (hangs h u) (turnsNow h) (ltb i 32) i ≡ eqb (left h i) 1
@@ -51,8 +46,8 @@ module _ (h : Hung) (g : Good h) (u : ℕ) (next : u ≡ (h .position + 1) % 64)
   hangs-after s i = rw (left-ticked h i, position-after)
 
   -- the word of those that came due
-  due-word : wordOf 32 (λ i. atEnd (hangs h u) (turnsNow h) (ltb i 32) i) ≡ dueOf h .ids
-  unfolding dueOf
+  due-word : wordOf 32 (λ i. atEnd (hangs h u) (turnsNow h) (ltb i 32) i) ≡ lastTick h .ids
+  unfolding lastTick
   due-word = word-same 32 _ _ end-is-one
 
   on-next : (i : ℕ) → xor (hangs h u i) (eqb (left h i) 1) ≡ hangs (ticked h) u i
@@ -62,8 +57,8 @@ module _ (h : Hung) (g : Good h) (u : ℕ) (next : u ≡ (h .position + 1) % 64)
   on-others s i l n =
       rw (hangs-after s i, hangs-at h i s (spokeNow h i) refl) (others (h .position) u (g .place) next (left h i) s l n)
 
-  spokes-after : set (wheelOf h .spokes) u (bitXor (getD (wheelOf h .spokes) u 0) (dueOf h .ids)) ≡ wheelOf (ticked h) .spokes
-  unfolding wheelOf dueOf
+  spokes-after : set (tablesOf h .spokes) u (bitXor (getD (tablesOf h .spokes) u 0) (lastTick h .ids)) ≡ tablesOf (ticked h) .spokes
+  unfolding tablesOf lastTick
   spokes-after =
       let m : u < 64 = omega arith in
       let e : getD (tabulate 64 (λ s. wordOf 32 (hangs h s))) u 0 ≡ wordOf 32 (hangs h u) = getD-tabulate 64 (λ s. wordOf 32 (hangs h s)) u 0 m in
@@ -71,16 +66,16 @@ module _ (h : Hung) (g : Good h) (u : ℕ) (next : u ≡ (h .position + 1) % 64)
       (rw (e, xor-words 32 (hangs h u) (λ i. eqb (left h i) 1)) (word-same 32 _ _ (λ i l. on-next i)))
       (λ s l n. word-same 32 _ _ (λ i k. on-others s i l n))
 
-  turns-table : tabulate 32 (λ i. turn (hangs h u) (turnsNow h) (ltb i 32) i) ≡ wheelOf (ticked h) .turns
-  unfolding wheelOf hangs
+  turns-table : tabulate 32 (λ i. turn (hangs h u) (turnsNow h) (ltb i 32) i) ≡ tablesOf (ticked h) .turns
+  unfolding tablesOf hangs
   turns-table = tabulate-below 32 _ _ (λ i l. rw (lt-ltb i 32 l, left-ticked h i) (turns-after (h .position) u (g .place) next (left h i)))
 
-  spoke-table : tabulate 32 (λ i. home (hangs h u) (turnsNow h) (spokeNow h) (ltb i 32) i) ≡ wheelOf (ticked h) .spoke
-  unfolding wheelOf
+  spoke-table : tabulate 32 (λ i. home (hangs h u) (turnsNow h) (spokeNow h) (ltb i 32) i) ≡ tablesOf (ticked h) .spoke
+  unfolding tablesOf
   spoke-table = tabulate-below 32 _ _ (λ i l. rw (end-is-one i l, left-ticked h i, position-after) (spoke-after (h .position) u (g .place) next (left h i)))
 
-  position-table : u ≡ wheelOf (ticked h) .position
-  unfolding wheelOf
+  position-table : u ≡ tablesOf (ticked h) .position
+  unfolding tablesOf
   position-table = sym position-after
 
   visits-next : length (among 32 (hangs h u)) ≡ onNext h
@@ -88,38 +83,38 @@ module _ (h : Hung) (g : Good h) (u : ℕ) (next : u ≡ (h .position + 1) % 64)
   visits-next = ap (λ (s : ℕ). length (among 32 (hangs h s))) next
 
   -- those that came due taken off, the visits come to the tick
-  clears : cleared (After (wheelOf h .spokes) u (hangs h u) (turnsNow h) (spokeNow h) 32) ≡ tickedOf h
-  unfolding cleared After tickedOf
+  clears : cleared (After (tablesOf h .spokes) u (hangs h u) (turnsNow h) (spokeNow h) 32) ≡ record { wheel = tablesOf (ticked h); due = lastTick h; visits = onNext h }
+  unfolding cleared After
   clears =
       rw (due-word, spokes-after, turns-table, spoke-table)
       (λ x. record {
         wheel = record {
-          spokes = wheelOf (ticked h) .spokes;
-          turns = wheelOf (ticked h) .turns;
-          spoke = wheelOf (ticked h) .spoke;
+          spokes = tablesOf (ticked h) .spokes;
+          turns = tablesOf (ticked h) .turns;
+          spoke = tablesOf (ticked h) .spoke;
           position = position-table x;
         };
-        due = dueOf h;
+        due = lastTick h;
         visits = visits-next x;
       })
 
   -- the tick moves to the next spoke
-  moves : moved (wheelOf h) .position ≡ u
-  unfolding moved wheelOf
+  moves : moved (tablesOf h) .position ≡ u
+  unfolding moved tablesOf
   moves = omega (arith, g .place)
 
   -- whose members are the timers that hang there
-  next-members : members 32 (getD (wheelOf h .spokes) (moved (wheelOf h) .position) 0) ≡ among 32 (hangs h u)
+  next-members : members 32 (getD (tablesOf h .spokes) (moved (tablesOf h) .position) 0) ≡ among 32 (hangs h u)
   next-members = rw (moves, spoke-word h u (omega arith)) (members-word 32 (hangs h u))
 
--- a tick of the wheel is a tick
-pub tick-hangs : (h : Hung) → Good h → tickedIn (wheelOf h) ≡ tickedOf h
-unfolding tickedIn
-tick-hangs h g =
+-- a tick of the tables is a tick
+pub tick-inside : (h : Hung) → Good h → turnedIn (tablesOf h) ≡ record { wheel = tablesOf (ticked h); due = lastTick h; visits = onNext h }
+unfolding turnedIn
+tick-inside h g =
     let u : ℕ = (h .position + 1) % 64 in
     rw (
       next-members h g u refl,
       begins h g u refl,
-      visited-below (wheelOf h .spokes) u (hangs h u) (turnsNow h) (spokeNow h) 32 (omega arith),
+      visited-below (tablesOf h .spokes) u (hangs h u) (turnsNow h) (spokeNow h) 32 (omega arith),
     )
     (clears h g u refl)

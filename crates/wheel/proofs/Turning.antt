@@ -8,7 +8,7 @@ use lib.Dec.{eqb}
 use borrow.Author.Tests.{eq-eqb, ne-eqb, eqb-true, eqb-false}
 use Rattle.laws.specs.Bools.{by-cases}
 use Rattle.laws.specs.Bits.{xor-false}
-use Rattle.wheel.specs.Wheels.{spokeOf, turnsOf}
+use Rattle.wheel.specs.Hung.{spokeOf, turnsOf}
 
 -- a stopped timer hangs on no spoke
 pub off : (t s : ℕ) → s < 64 → eqb (spokeOf t 0) s ≡ false

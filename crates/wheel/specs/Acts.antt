@@ -6,8 +6,7 @@ use mathlib.Core.List.{List, [], _∷_}
 use lib.Dec.{eqb, ltb}
 use Rattle.wheel.specs.declared.Wheel.{Wheel}
 use Rattle.wheel.specs.Hung.{Hung, started, stopped, ticked}
-use Rattle.wheel.specs.Wheels.{idsOf}
-use Rattle.wheel.specs.Inside.{startedIn, stoppedIn, tickedIn}
+use Rattle.wheel.specs.Promise.{startedIn, stoppedIn, tickedIn, idsOf}
 
 -- a timer started for a number of ticks, a timer stopped, a tick
 pub data Act : Type 0 where

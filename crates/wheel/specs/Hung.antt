@@ -1,11 +1,13 @@
--- What the wheel promises, with nothing of its inside: each timer's ticks left, 0 for a stopped one, and who comes due at a tick.
+-- What the wheel promises, with nothing of its inside: each timer's ticks left, 0 for a stopped one, who comes due at a tick, and on which spoke
+-- a timer hangs.
 -- Assumes nothing.
-use Prim.Native.Nat.{ℕ, _+_, _-_, _%_, _<_}
+use Prim.Native.Nat.{ℕ, _+_, _-_, _/_, _%_, _<_}
 use mathlib.Core.Path.{_≡_}
 use mathlib.Core.Bool.{Bool, cond, _&&_}
 use mathlib.Core.List.{List, map}
 use lib.ListN.{length, getD, set, replicate}
 use lib.Dec.{eqb, ltb}
+use Rattle.laws.specs.Lists.{tabulate}
 use Rattle.laws.specs.Bits.{among}
 
 -- the tick count mod 64, and the ticks left to each timer in order of id
@@ -50,3 +52,31 @@ ticked h = record { position = (h .position + 1) % 64; lefts = map (λ (r : ℕ)
 -- who comes due at the next tick, in order of id: those with one tick left
 unfoldable pub due : Hung → List ℕ
 due h = among 32 (λ i. eqb (left h i) 1)
+
+-- ---- a row of ticks left
+
+-- the ticks left of a timer of a row if it is seen, and none if not
+abbrev pub given : List ℕ → Bool → ℕ → ℕ
+given row seen i = cond seen (getD row i 0) 0
+
+-- the timers below k hung as in the row, the others stopped
+abbrev pub filled : ℕ → List ℕ → ℕ → Hung
+filled p row k = record { position = p; lefts = tabulate 32 (λ i. given row (ltb i k) i) }
+
+-- ---- spokes and turns
+
+-- at tick count t, mod 64, a timer with r ticks left hangs on spoke (t + r) mod 64, and a stopped one on none, which is written 255
+unfoldable pub spokeOf : ℕ → ℕ → ℕ
+spokeOf t r = cond (eqb r 0) 255 ((t + r) % 64)
+
+-- and it has (r - 1) div 64 turns left
+unfoldable pub turnsOf : ℕ → ℕ
+turnsOf r = (r - 1) / 64
+
+-- the timer i hangs on the spoke s
+unfoldable pub hangs : Hung → ℕ → ℕ → Bool
+hangs h s i = eqb (spokeOf (h .position) (left h i)) s
+
+-- how many timers hang on the next spoke
+unfoldable pub onNext : Hung → ℕ
+onNext h = length (among 32 (hangs h ((h .position + 1) % 64)))

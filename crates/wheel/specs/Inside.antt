@@ -1,16 +1,41 @@
--- What each operation does to any wheel whatever, also to one that no calls make. The laws of proofs/ carry it to Hung.antt.
+-- The inside of the wheel, for its own proofs alone: the tables for a position and the ticks left, and what each operation does to any tables
+-- whatever, also to those that no calls make. Promise.antt gives it names that others cannot open.
 -- Assumes nothing.
 use Prim.Native.Nat.{ℕ, _+_, _-_, _*_, _%_, _^_}
-use mathlib.Core.Bool.{cond}
+use mathlib.Core.Bool.{Bool, cond, _&&_}
 use mathlib.Core.List.{List, [], _∷_}
 use lib.ListN.{getD, set}
 use lib.Dec.{eqb, ltb, leb}
 use lib.Bits.{bitAnd, bitOr, bitXor}
-use Rattle.laws.specs.Bits.{members}
-use Rattle.wheel.specs.Wheels.{turnsOf}
+use Rattle.laws.specs.Lists.{tabulate}
+use Rattle.laws.specs.Bits.{wordOf, members}
+use Rattle.laws.specs.Same.{sameList}
+use Rattle.wheel.specs.Hung.{Hung, left, spokeOf, turnsOf, hangs}
 use Rattle.wheel.specs.declared.Wheel.{Wheel}
 use Rattle.wheel.specs.declared.Due.{Due}
 use Rattle.wheel.specs.declared.Ticked.{Ticked}
+
+-- ---- the tables
+
+-- for a position and the ticks left
+unfoldable pub tablesOf : Hung → Wheel
+tablesOf h =
+    record {
+      spokes = tabulate 64 (λ s. wordOf 32 (hangs h s));
+      turns = tabulate 32 (λ i. turnsOf (left h i));
+      spoke = tabulate 32 (λ i. spokeOf (h .position) (left h i));
+      position = h .position;
+    }
+
+-- the set of the timers with one tick left
+unfoldable pub lastTick : Hung → Due
+lastTick h = record { ids = wordOf 32 (λ i. eqb (left h i) 1) }
+
+-- whether two wheels have the same tables and the same position
+unfoldable pub sameTables : Wheel → Wheel → Bool
+sameTables a b = sameList eqb (a .spokes) (b .spokes) && (sameList eqb (a .turns) (b .turns) && (sameList eqb (a .spoke) (b .spoke) && eqb (a .position) (b .position)))
+
+-- ---- the operations
 
 -- the bit of a timer
 unfoldable pub bitOf : ℕ → ℕ
@@ -27,8 +52,8 @@ hungOn w i n s =
     }
 
 -- a timer of the 32 that hangs on no spoke is hung n ticks on, if n is not 0
-unfoldable pub startedIn : Wheel → ℕ → ℕ → Wheel
-startedIn w i n =
+unfoldable pub hungIn : Wheel → ℕ → ℕ → Wheel
+hungIn w i n =
     cond (leb 32 i) w
     (cond (ltb (getD (w .spoke) i 0) 64) w
     (cond (eqb n 0) w
@@ -45,15 +70,15 @@ takenOff w i s =
     }
 
 -- a timer of the 32 that hangs on a spoke is taken off it
-unfoldable pub stoppedIn : Wheel → ℕ → Wheel
-stoppedIn w i =
+unfoldable pub takenIn : Wheel → ℕ → Wheel
+takenIn w i =
     cond (leb 32 i) w
     (cond (leb 64 (getD (w .spoke) i 0)) w
     (takenOff w i (getD (w .spoke) i 0)))
 
 -- the ticks left: 64 for each turn, and the way from the position to the spoke, which is 64 for the spoke of the position itself
-unfoldable pub leftIn : Wheel → ℕ → ℕ
-leftIn w i =
+unfoldable pub wayIn : Wheel → ℕ → ℕ
+wayIn w i =
     cond (leb 32 i) 0
     (cond (leb 64 (getD (w .spoke) i 0)) 0
     ((getD (w .turns) i 0 * 64 + (getD (w .spoke) i 0 + 63 - w .position % 64) % 64 + 1) % 65536))
@@ -100,9 +125,9 @@ cleared t =
     (t .visits)
 
 -- a tick: the wheel moves to the next spoke, visits the timers on it, and takes off those that came due
-unfoldable pub tickedIn : Wheel → Ticked
-tickedIn w = cleared (visited (members 32 (getD (w .spokes) (moved w .position) 0)) (midst (moved w) 0 0))
+unfoldable pub turnedIn : Wheel → Ticked
+turnedIn w = cleared (visited (members 32 (getD (w .spokes) (moved w .position) 0)) (midst (moved w) 0 0))
 
 -- a set without its lowest id
-unfoldable pub withoutFirst : Due → Due
-withoutFirst d = cond (eqb (d .ids) 0) d (record { ids = bitAnd (d .ids) (d .ids - 1) })
+unfoldable pub lowestOff : Due → Due
+lowestOff d = cond (eqb (d .ids) 0) d (record { ids = bitAnd (d .ids) (d .ids - 1) })

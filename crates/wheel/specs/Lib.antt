@@ -1,4 +1,4 @@
 pub mod Hung
-pub mod Wheels
 pub mod Inside
+pub mod Promise
 pub mod Acts

@@ -1,25 +1,31 @@
 // The timer wheel: at most 32 timers on 64 spokes. A spoke is a set of timers, a bit for each id, so that a wheel is determined by its
 // position and by each timer's ticks left, and timers come due in order of id.
+use choice::both;
+use choice::same_bytes;
 use units::Ticks;
 ghost use mathlib.Core.Path.{_≡_};
+ghost use mathlib.Core.Logic.{_↔_};
+ghost use mathlib.Core.Bool.{true};
+ghost use lib.Dec.{eqb};
+ghost use Rattle.laws.specs.Same.{sameList};
 ghost use Rattle.wheel.specs.Hung.{Hung, Good, empty, started, stopped, left, due};
-ghost use Rattle.wheel.specs.Wheels.{wheelOf, tickedOf, idsOf, first, rest};
-ghost use Rattle.wheel.specs.Inside.{bitOf, startedIn, stoppedIn, leftIn, tickedIn, withoutFirst};
+ghost use Rattle.wheel.specs.Inside.{bitOf};
+ghost use Rattle.wheel.specs.Promise.{wheelOf, startedIn, stoppedIn, leftIn, tickedIn, tickedOf, idsOf, withoutFirst, first, rest};
 
 pub struct Wheel {
     // The timers that hang on each spoke.
-    pub spokes: [u32; 64],
+    spokes: [u32; 64],
     // The whole turns left to each timer, 0 for a stopped one.
-    pub turns: [u16; 32],
+    turns: [u16; 32],
     // The spoke on which each timer hangs, 255 for a stopped one.
-    pub spoke: [u8; 32],
+    spoke: [u8; 32],
     // The spoke last visited: the tick count mod 64.
-    pub position: u8,
+    position: u8,
 }
 
 // The timers that came due at a tick, a bit for each id.
 pub struct Due {
-    pub ids: u32,
+    ids: u32,
 }
 
 // What a tick gives: the next wheel, the timers that came due, and how many timers were visited.
@@ -37,6 +43,34 @@ fn bit(id: u8) -> u32
         return 0;
     }
     1u32 << id
+}
+
+// The 64 spokes are the same.
+fn same_spokes(one: [u32; 64], other: [u32; 64]) -> bool
+    ensures { λ r. ⌜ r ≡ sameList eqb one other ⌝ }
+{
+    let mut i: usize = 0;
+    while i < 64 {
+        if one[i] != other[i] {
+            return false;
+        }
+        i += 1;
+    }
+    true
+}
+
+// The 32 numbers of turns are the same.
+fn same_turns(one: [u16; 32], other: [u16; 32]) -> bool
+    ensures { λ r. ⌜ r ≡ sameList eqb one other ⌝ }
+{
+    let mut i: usize = 0;
+    while i < 32 {
+        if one[i] != other[i] {
+            return false;
+        }
+        i += 1;
+    }
+    true
 }
 
 impl Wheel {
@@ -148,6 +182,25 @@ impl Wheel {
             due,
             visits,
         }
+    }
+
+    // Whether two wheels are the same.
+    pub fn same(self, other: Wheel) -> bool
+        ensures { λ r. ⌜ (r ≡ true) ↔ (self ≡ other) ⌝ }
+    {
+        let spokes = self.spokes;
+        let other_spokes = other.spokes;
+        let hung = same_spokes(spokes, other_spokes);
+        let turns = self.turns;
+        let other_turns = other.turns;
+        let turned = same_turns(turns, other_turns);
+        let spoke = self.spoke;
+        let other_spoke = other.spoke;
+        let found = same_bytes(spoke, other_spoke);
+        both(
+            hung,
+            both(turned, both(found, self.position == other.position)),
+        )
     }
 }
 

@@ -4,8 +4,7 @@ use mathlib.Core.Path.{refl}
 use borrow.Author.Needs.{needs}
 use lib.ListN.{getD}
 use Rattle.wheel.specs.Hung.{empty}
-use Rattle.wheel.specs.Wheels.{wheelOf}
-use Rattle.wheel.specs.Inside.{startedIn}
+use Rattle.wheel.specs.Promise.{wheelOf, startedIn}
 use Rattle.page.specs.Says.{noTimerRow}
 use Rattle.build.specs.Models.{hungBelow}
 use Rattle.build.proofs.Turns.{Going, going-starts, going-turns, going-ends}

@@ -5,12 +5,13 @@ use native.Mathlib.Omega.{arith}
 use lib.ListN.{length, getD}
 use mathlib.Core.Logic.{⊎-elim}
 use borrow.Author.Needs.{needs}
-use Rattle.wheel.specs.Wheels.{idsOf, first}
+use Rattle.wheel.specs.Promise.{idsOf, first}
+use Rattle.wheel.proofs.Promise.{ids-few}
 use Rattle.engine.specs.Models.{noTimer, serveModel}
 use Rattle.engine.proofs.Serving.{onFrom}
 use Rattle.plain.specs.declared.Counts.{Counts}
 use Rattle.plain.specs.Standing.{engineIn}
-use Rattle.timed.proofs.Serving.{few, one-less, ends, goes-on, serves-periodic, serves-other}
+use Rattle.timed.proofs.Serving.{one-less, ends, goes-on, serves-periodic, serves-other}
 use Rattle.timed.proofs.serve_all.Statement.{statement}
 use Rattle.timed.proofs.serve_all.Tie as tie
 use Rattle.timed.proofs.serve_all.Reads as reads
@@ -31,7 +32,7 @@ first-requires : tie.Need-first-requires Inv-loop μ-loop
 first-requires c κs = search needs
 
 loop-holds : tie.Need-loop-holds Inv-loop μ-loop
-loop-holds c = (omega (arith, few (c .before .before .before .args .due)), c .first .ensures, λ counts. refl)
+loop-holds c = (omega (arith, ids-few (c .before .before .before .args .due)), c .first .ensures, λ counts. refl)
 
 cast-i : tie.Need-cast-i Inv-loop μ-loop
 cast-i c = search needs

@@ -1,6 +1,6 @@
 -- `start_timer` meets its contract: by its verdict, and each call by its own. Assumes nothing.
 use mathlib.Core.Path.{ap, _∙_}
-use Rattle.wheel.specs.Inside.{startedIn}
+use Rattle.wheel.specs.Promise.{startedIn}
 use Rattle.verdicts.specs.Models.{firstOf}
 use Rattle.engine.specs.Models.{startTimerModel, withTimer}
 use Rattle.plain.specs.Standing.{engineIn}

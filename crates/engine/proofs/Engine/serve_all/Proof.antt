@@ -3,7 +3,7 @@ use Prim.Native.Nat.{_≤_, _-_}
 use mathlib.Core.Path.{_≡_, refl, sym, _∙_}
 use native.Mathlib.Omega.{arith}
 use borrow.Author.Needs.{needs}
-use Rattle.wheel.specs.Wheels.{idsOf}
+use Rattle.wheel.specs.Promise.{idsOf}
 use Rattle.engine.proofs.Serving.{onFrom, serve-on, serve-none, serve-full}
 use Rattle.engine.proofs.Engine.serve_all.Statement.{statement}
 use Rattle.engine.proofs.Engine.serve_all.Tie as tie

@@ -1,5 +1,10 @@
--- `Engine::start_timer` meets its contract: by its verdict, and each call by its own. Assumes nothing.
+-- `Engine::start_timer` meets its contract: by the length of the delay and the verdict, and each call by its own. Assumes nothing.
 use borrow.Author.Tests.{eq-eqb, ne-eqb}
+use native.Mathlib.Omega.{arith}
+use Rattle.calls.specs.declared.Verdict.the-variants.{OutOfRange}
+use Rattle.calls.specs.Answers.{numberOf}
+use Rattle.verdicts.specs.Models.{firstOf, delayVerdict}
+use Rattle.verdicts.proofs.Delays.{first-refuses}
 use Rattle.engine.specs.Models.{startTimerModel}
 use borrow.Author.Needs.{needs}
 use Rattle.engine.proofs.Engine.start_timer.Statement.{statement}
@@ -17,36 +22,55 @@ element-copy-out-row c = search needs
 ids-verdict-requires : tie.Need-ids-verdict-requires
 ids-verdict-requires c κs = search needs
 
-delay-verdict-requires : tie.Need-delay-verdict-requires
-delay-verdict-requires c κs = search needs
+ticks-of-requires : tie.Need-ticks-of-requires
+ticks-of-requires c κs = search needs
+
+enum-known-length : tie.Need-enum-known-length
+enum-known-length c = search needs
+
+enum-told : tie.Need-enum-told
+enum-told c = search needs
 
 first-of-requires : tie.Need-first-of-requires
 first-of-requires c κs = search needs
-
-number-requires : tie.Need-number-requires
-number-requires c κs = search needs
 
 refused-requires : tie.Need-refused-requires
 refused-requires c κs = search needs
 
 returns : tie.Need-returns
-unfolding startTimerModel
+unfolding startTimerModel delayVerdict
 returns c =
-    let tested = c .before in
-    let at-number = tested .before in
-    let at-first-of = at-number .before in
-    let at-delay-verdict = at-first-of .before in
-    let at-ids-verdict = at-delay-verdict .before in
-    rw (← at-ids-verdict .ids-verdict .ensures, ← at-delay-verdict .delay-verdict .ensures, ← at-first-of .first-of .ensures, ← at-number .number .ensures, ne-eqb _ _ (tested .if1 .taken)) (c .refused .ensures)
+    let at-told = c .before .before in
+    let at-ticks-of = at-told .before .before in
+    let ids = at-ticks-of .before .ids-verdict .result in
+    rw (← at-ticks-of .before .ids-verdict .ensures, ← at-ticks-of .ticks-of .ensures, at-told .enum-told .given .1, ne-eqb (numberOf (firstOf ids OutOfRange)) 0 (first-refuses ids OutOfRange (λ z. omega (arith, z))), ← c .before .first-of .ensures) (c .refused .ensures)
 
-length-of-requires : tie.Need-length-of-requires
-length-of-requires c κs = search needs
+start-timer-verdict-requires : tie.Need-start-timer-verdict-requires
+start-timer-verdict-requires c κs = search needs
+
+first-of-requires-2 : tie.Need-first-of-requires-2
+first-of-requires-2 c κs = search needs
+
+number-requires : tie.Need-number-requires
+number-requires c κs = search needs
+
+refused-requires-2 : tie.Need-refused-requires-2
+refused-requires-2 c κs = search needs
+
+returns-2 : tie.Need-returns-2
+unfolding startTimerModel delayVerdict
+returns-2 c =
+    let at-first-of = c .before .before .before in
+    let at-start-timer-verdict = at-first-of .before in
+    let at-length = at-start-timer-verdict .before .before in
+    let at-ticks-of = at-length .before .before in
+    rw (← at-ticks-of .before .ids-verdict .ensures, ← at-ticks-of .ticks-of .ensures, at-length .length .given .1, ← at-start-timer-verdict .start-timer-verdict .ensures, ← at-first-of .first-of2 .ensures, ← c .before .before .number .ensures, ne-eqb _ _ (c .before .if1 .taken)) (c .refused2 .ensures)
 
 state-of-requires : tie.Need-state-of-requires
 state-of-requires c κs = search needs
 
-mul-t18 : tie.Need-mul-t18
-mul-t18 c = search needs
+mul-t19 : tie.Need-mul-t19
+mul-t19 c = search needs
 
 element-set-from-self : tie.Need-element-set-from-self
 element-set-from-self c = search needs
@@ -57,18 +81,16 @@ start-requires c κs = search needs
 answered-requires : tie.Need-answered-requires
 answered-requires c κs = search needs
 
-returns-2 : tie.Need-returns-2
-unfolding startTimerModel
-returns-2 c =
-    let at-start = c .before in
-    let at-state-of = at-start .before .before in
-    let at-length-of = at-state-of .before in
-    let tested = at-length-of .before in
-    let at-number = tested .before in
-    let at-first-of = at-number .before in
-    let at-delay-verdict = at-first-of .before in
-    let at-ids-verdict = at-delay-verdict .before in
-    rw (← at-ids-verdict .ids-verdict .ensures, ← at-delay-verdict .delay-verdict .ensures, ← at-first-of .first-of .ensures, ← at-number .number .ensures, eq-eqb _ _ (tested .if1 .left), ← at-length-of .length-of .ensures, ← at-state-of .state-of .ensures, ← at-start .start .ensures .0) (c .answered .ensures)
+returns-3 : tie.Need-returns-3
+unfolding startTimerModel delayVerdict
+returns-3 c =
+    let at-state-of = c .before .before .before in
+    let tested = at-state-of .before in
+    let at-first-of = tested .before .before in
+    let at-start-timer-verdict = at-first-of .before in
+    let at-length = at-start-timer-verdict .before .before in
+    let at-ticks-of = at-length .before .before in
+    rw (← at-ticks-of .before .ids-verdict .ensures, ← at-ticks-of .ticks-of .ensures, at-length .length .given .1, ← at-start-timer-verdict .start-timer-verdict .ensures, ← at-first-of .first-of2 .ensures, ← tested .before .number .ensures, eq-eqb _ _ (tested .if1 .left), ← at-state-of .state-of .ensures, ← c .before .start .ensures .0) (c .answered .ensures)
 
 pub start-timer-spec : {M : Type 1} → statement M
 start-timer-spec =
@@ -78,15 +100,20 @@ start-timer-spec =
     mul-row
     element-copy-out-row
     ids-verdict-requires
-    delay-verdict-requires
+    ticks-of-requires
+    enum-known-length
+    enum-told
     first-of-requires
-    number-requires
     refused-requires
     returns
-    length-of-requires
+    start-timer-verdict-requires
+    first-of-requires-2
+    number-requires
+    refused-requires-2
+    returns-2
     state-of-requires
-    mul-t18
+    mul-t19
     element-set-from-self
     start-requires
     answered-requires
-    returns-2)
+    returns-3)

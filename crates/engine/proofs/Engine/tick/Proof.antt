@@ -1,8 +1,7 @@
 -- `Engine::tick` meets its contract: by whether the scheduler has started and a timer is due, and each call by its own. Assumes nothing.
 use borrow.Author.Tests.{not-true, not-false}
 use native.Mathlib.Omega.{arith}
-use Rattle.wheel.specs.Wheels.{idsOf}
-use Rattle.wheel.specs.Inside.{tickedIn}
+use Rattle.wheel.specs.Promise.{tickedIn, idsOf}
 use Rattle.engine.specs.Models.{tickModel, turned}
 use Rattle.engine.proofs.Serving.{serve-none}
 use borrow.Author.Needs.{needs}

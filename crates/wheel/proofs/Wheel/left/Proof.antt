@@ -4,7 +4,7 @@ use borrow.Author.Tests.{le-leb, lt-leb}
 use mir.Syntax.{w16}
 use mir.Val.{Fits}
 use lib.ListN.{getD}
-use Rattle.wheel.specs.Inside.{leftIn}
+use Rattle.wheel.specs.Inside.{wayIn}
 use Rattle.wheel.proofs.Laws.{left-promise}
 use borrow.Author.Needs.{needs}
 use Rattle.wheel.proofs.Wheel.left.Statement.{statement}
@@ -13,7 +13,7 @@ use Rattle.wheel.proofs.Wheel.left.Reads as reads
 use Rattle.wheel.proofs.Wheel.left.Lts as lts
 
 returns : tie.Need-returns
-unfolding leftIn
+unfolding wayIn
 returns c = left-promise (c .before .args .t1) (c .before .args .id) _ (rw (le-leb _ _ (c .if1 .taken)))
 
 element-copy-out-s : tie.Need-element-copy-out-s
@@ -23,7 +23,7 @@ cast-s : tie.Need-cast-s
 cast-s c = search needs
 
 returns-2 : tie.Need-returns-2
-unfolding leftIn
+unfolding wayIn
 returns-2 c =
     let a = c .before .before .before .args in
     left-promise (a .t1) (a .id) _ (rw (lt-leb _ _ (c .before .before .if1 .left), le-leb _ _ (c .if2 .taken)))
@@ -62,7 +62,7 @@ cast-t15 : tie.Need-cast-t15
 cast-t15 c = search needs
 
 returns-3 : tie.Need-returns-3
-unfolding leftIn
+unfolding wayIn
 returns-3 c =
     let a = c .before .before .before .before .args in
     left-promise (a .t1) (a .id) _

@@ -1,27 +1,27 @@
 -- `wheel::Wheel::start` meets its contract, each return by the tests that led there. Assumes nothing.
 use borrow.Author.Tests.{le-leb, lt-leb, lt-ltb, le-ltb, eq-eqb, ne-eqb}
-use Rattle.wheel.specs.Wheels.{turnsOf}
-use Rattle.wheel.specs.Inside.{startedIn, hungOn}
+use Rattle.wheel.specs.Hung.{turnsOf}
+use Rattle.wheel.specs.Inside.{hungIn, hungOn}
 use Rattle.wheel.proofs.Laws.{start-promise}
 use borrow.Author.Needs.{needs}
 use Rattle.wheel.proofs.Wheel.start.Statement.{statement}
 use Rattle.wheel.proofs.Wheel.start.Tie as tie
 
 returns : tie.Need-returns
-unfolding startedIn
+unfolding hungIn
 returns c = start-promise (c .before .args .t1) (c .before .args .id) (c .before .args .n .0) _ (rw (le-leb _ _ (c .if1 .taken)))
 
 element-copy-out-if2 : tie.Need-element-copy-out-if2
 element-copy-out-if2 c = search needs
 
 returns-2 : tie.Need-returns-2
-unfolding startedIn
+unfolding hungIn
 returns-2 c =
     let a = c .before .before .before .args in
     start-promise (a .t1) (a .id) (a .n .0) _ (rw (lt-leb _ _ (c .before .before .if1 .left), lt-ltb _ _ (c .if2 .taken)))
 
 returns-3 : tie.Need-returns-3
-unfolding startedIn
+unfolding hungIn
 returns-3 c =
     let a = c .before .before .before .before .args in
     start-promise (a .t1) (a .id) (a .n .0) _
@@ -70,7 +70,7 @@ element-write-self-3 : tie.Need-element-write-self-3
 element-write-self-3 c = search needs
 
 returns-4 : tie.Need-returns-4
-unfolding startedIn hungOn turnsOf
+unfolding hungIn hungOn turnsOf
 returns-4 c =
     let a = c .before .before .before .before .before .before .args in
     start-promise (a .t1) (a .id) (a .n .0) _

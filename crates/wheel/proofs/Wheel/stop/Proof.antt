@@ -1,13 +1,13 @@
 -- `wheel::Wheel::stop` meets its contract, each return by the tests that led there. Assumes nothing.
 use borrow.Author.Tests.{le-leb, lt-leb}
-use Rattle.wheel.specs.Inside.{stoppedIn, takenOff}
+use Rattle.wheel.specs.Inside.{takenIn, takenOff}
 use Rattle.wheel.proofs.Laws.{stop-promise}
 use borrow.Author.Needs.{needs}
 use Rattle.wheel.proofs.Wheel.stop.Statement.{statement}
 use Rattle.wheel.proofs.Wheel.stop.Tie as tie
 
 returns : tie.Need-returns
-unfolding stoppedIn
+unfolding takenIn
 returns c = stop-promise (c .before .args .t1) (c .before .args .id) _ (rw (le-leb _ _ (c .if1 .taken)))
 
 element-copy-out-s : tie.Need-element-copy-out-s
@@ -17,7 +17,7 @@ cast-s : tie.Need-cast-s
 cast-s c = search needs
 
 returns-2 : tie.Need-returns-2
-unfolding stoppedIn
+unfolding takenIn
 returns-2 c =
     let a = c .before .before .before .args in
     stop-promise (a .t1) (a .id) _ (rw (lt-leb _ _ (c .before .before .if1 .left), le-leb _ _ (c .if2 .taken)))
@@ -47,7 +47,7 @@ element-write-self-3 : tie.Need-element-write-self-3
 element-write-self-3 c = search needs
 
 returns-3 : tie.Need-returns-3
-unfolding stoppedIn takenOff
+unfolding takenIn takenOff
 returns-3 c =
     let a = c .before .before .before .before .before .args in
     stop-promise (a .t1) (a .id) _

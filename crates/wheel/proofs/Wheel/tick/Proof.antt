@@ -11,7 +11,7 @@ use mir.Syntax.{w32}
 use mir.Val.{Fits}
 use lib.Count.{trailingZeros}
 use Rattle.laws.specs.Bits.{members}
-use Rattle.wheel.specs.Inside.{midst, visited, moved, tickedIn}
+use Rattle.wheel.specs.Inside.{midst, visited, moved, turnedIn}
 use Rattle.wheel.proofs.Walk.{Going, goes, clearedAt, gone, id-lt, goes-due, goes-round}
 use Rattle.wheel.proofs.Laws.{tick-promise}
 use Rattle.wheel.proofs.Wheel.tick.Statement.{statement}
@@ -109,7 +109,7 @@ element-write-self-3 : tie.Need-element-write-self-3 Inv-loop μ-loop
 element-write-self-3 c = search needs
 
 returns : tie.Need-returns Inv-loop μ-loop
-unfolding tickedIn moved
+unfolding turnedIn moved
 returns c =
     let l = c .before .before .loop in
     let a = c .before .before .before .before .args .t1 in

@@ -3,10 +3,9 @@ use Prim.Native.Nat.{_-_}
 use lib.Dec.{eqb}
 use borrow.Author.Tests.{eq-eqb, ne-eqb}
 use borrow.Author.Needs.{needs}
-use Rattle.queue.proofs.Cases.{cases}
-use Rattle.alike.proofs.Comparing.{Comparing, compare-none, compare-differs, compare-next, compare-all}
-use Rattle.alike.proofs.same_spokes.Statement.{statement}
-use Rattle.alike.proofs.same_spokes.Tie as tie
+use Rattle.laws.specs.Same.{Comparing, compare-none, compare-differs, compare-next, compare-all}
+use Rattle.wheel.proofs.same_spokes.Statement.{statement}
+use Rattle.wheel.proofs.same_spokes.Tie as tie
 
 abbrev Inv-loop : tie.InvT-loop
 Inv-loop one other i₀ i = Comparing eqb one other 64 i
@@ -32,7 +31,7 @@ array-read-if1-2 c = search needs
 returns : tie.Need-returns Inv-loop μ-loop
 returns c =
     let a = c .before .before in
-    compare-differs eqb (a .before .args .t1) (a .before .args .t2) _ _ (search cases) (search cases) (a .loop .inv) _ (c .before .loop-test .taken) (ne-eqb _ _ (c .if1 .taken))
+    compare-differs eqb (a .before .args .t1) (a .before .args .t2) _ _ (search needs) (search needs) (a .loop .inv) _ (c .before .loop-test .taken) (ne-eqb _ _ (c .if1 .taken))
 
 add-i : tie.Need-add-i Inv-loop μ-loop
 add-i c = search needs
@@ -43,12 +42,12 @@ loop-less c = search needs
 loop-again : tie.Need-loop-again Inv-loop μ-loop
 loop-again c =
     let a = c .before .before in
-    compare-next eqb (a .before .args .t1) (a .before .args .t2) _ _ (search cases) (search cases) (a .loop .inv) _ (c .before .loop-test .taken) (eq-eqb _ _ (c .if1 .left))
+    compare-next eqb (a .before .args .t1) (a .before .args .t2) _ _ (search needs) (search needs) (a .loop .inv) _ (c .before .loop-test .taken) (eq-eqb _ _ (c .if1 .left))
 
 returns-2 : tie.Need-returns-2 Inv-loop μ-loop
 returns-2 c =
     let a = c .before in
-    compare-all eqb (a .before .args .t1) (a .before .args .t2) _ _ (search cases) (search cases) (a .loop .inv) (c .loop-test .left)
+    compare-all eqb (a .before .args .t1) (a .before .args .t2) _ _ (search needs) (search needs) (a .loop .inv) (c .loop-test .left)
 
 pub same-spokes-spec : {M : Type 1} → statement M
 same-spokes-spec =

@@ -1,12 +1,11 @@
--- `same_bytes` meets its contract. The invariant: the entries below i are the same. The measure is what is left. Assumes nothing.
+-- `same_turns` meets its contract. The invariant: the entries below i are the same. The measure is what is left. Assumes nothing.
 use Prim.Native.Nat.{_-_}
 use lib.Dec.{eqb}
 use borrow.Author.Tests.{eq-eqb, ne-eqb}
 use borrow.Author.Needs.{needs}
-use Rattle.queue.proofs.Cases.{cases}
-use Rattle.alike.proofs.Comparing.{Comparing, compare-none, compare-differs, compare-next, compare-all}
-use Rattle.alike.proofs.same_bytes.Statement.{statement}
-use Rattle.alike.proofs.same_bytes.Tie as tie
+use Rattle.laws.specs.Same.{Comparing, compare-none, compare-differs, compare-next, compare-all}
+use Rattle.wheel.proofs.same_turns.Statement.{statement}
+use Rattle.wheel.proofs.same_turns.Tie as tie
 
 abbrev Inv-loop : tie.InvT-loop
 Inv-loop one other i₀ i = Comparing eqb one other 32 i
@@ -17,8 +16,14 @@ abbrev μ-loop : tie.MeasureT-loop
 loop-holds : tie.Need-loop-holds Inv-loop μ-loop
 loop-holds c = compare-none _ _ _ _
 
+mul-if1 : tie.Need-mul-if1 Inv-loop μ-loop
+mul-if1 c = search needs
+
 array-read-if1 : tie.Need-array-read-if1 Inv-loop μ-loop
 array-read-if1 c = search needs
+
+mul-if1-2 : tie.Need-mul-if1-2 Inv-loop μ-loop
+mul-if1-2 c = search needs
 
 array-read-if1-2 : tie.Need-array-read-if1-2 Inv-loop μ-loop
 array-read-if1-2 c = search needs
@@ -26,7 +31,7 @@ array-read-if1-2 c = search needs
 returns : tie.Need-returns Inv-loop μ-loop
 returns c =
     let a = c .before .before in
-    compare-differs eqb (a .before .args .t1) (a .before .args .t2) _ _ (search cases) (search cases) (a .loop .inv) _ (c .before .loop-test .taken) (ne-eqb _ _ (c .if1 .taken))
+    compare-differs eqb (a .before .args .t1) (a .before .args .t2) _ _ (search needs) (search needs) (a .loop .inv) _ (c .before .loop-test .taken) (ne-eqb _ _ (c .if1 .taken))
 
 add-i : tie.Need-add-i Inv-loop μ-loop
 add-i c = search needs
@@ -37,21 +42,23 @@ loop-less c = search needs
 loop-again : tie.Need-loop-again Inv-loop μ-loop
 loop-again c =
     let a = c .before .before in
-    compare-next eqb (a .before .args .t1) (a .before .args .t2) _ _ (search cases) (search cases) (a .loop .inv) _ (c .before .loop-test .taken) (eq-eqb _ _ (c .if1 .left))
+    compare-next eqb (a .before .args .t1) (a .before .args .t2) _ _ (search needs) (search needs) (a .loop .inv) _ (c .before .loop-test .taken) (eq-eqb _ _ (c .if1 .left))
 
 returns-2 : tie.Need-returns-2 Inv-loop μ-loop
 returns-2 c =
     let a = c .before in
-    compare-all eqb (a .before .args .t1) (a .before .args .t2) _ _ (search cases) (search cases) (a .loop .inv) (c .loop-test .left)
+    compare-all eqb (a .before .args .t1) (a .before .args .t2) _ _ (search needs) (search needs) (a .loop .inv) (c .loop-test .left)
 
-pub same-bytes-spec : {M : Type 1} → statement M
-same-bytes-spec =
+pub same-turns-spec : {M : Type 1} → statement M
+same-turns-spec =
     tie.close
     (tie.spec
     Inv-loop
     μ-loop
     loop-holds
+    mul-if1
     array-read-if1
+    mul-if1-2
     array-read-if1-2
     returns
     add-i

@@ -1,0 +1,78 @@
+-- What others may cite of the wheel: a name for what each operation makes of any wheel whatever, and for the one wheel that hangs as ticks left say.
+-- The names are shut: what stands behind them is the wheel's own (Inside.antt), and nobody else can open them. The laws that tell all there is
+-- to know of them are in proofs/Promise.antt. Opened, below, is for the wheel's own proofs.
+-- Assumes nothing.
+pub mod Opened
+use Prim.Native.Nat.{ℕ}
+use mathlib.Core.List.{List, [], _∷_}
+use lib.ListN.{getD}
+use Rattle.laws.specs.Bits.{members}
+use Rattle.wheel.specs.declared.Wheel.{Wheel}
+use Rattle.wheel.specs.declared.Due.{Due}
+use Rattle.wheel.specs.declared.Ticked.{Ticked}
+use Rattle.wheel.specs.Hung.{Hung, ticked, onNext}
+use Rattle.wheel.specs.Inside.{tablesOf, lastTick, hungIn, takenIn, wayIn, turnedIn, lowestOff}
+
+-- ---- the wheel
+
+-- the one wheel for a position and the ticks left
+pub wheelOf : Hung → Wheel
+wheelOf h = tablesOf h
+
+-- a timer started for a number of ticks
+pub startedIn : Wheel → ℕ → ℕ → Wheel
+startedIn w i n = hungIn w i n
+
+-- a timer stopped
+pub stoppedIn : Wheel → ℕ → Wheel
+stoppedIn w i = takenIn w i
+
+-- the ticks left to a timer
+pub leftIn : Wheel → ℕ → ℕ
+leftIn w i = wayIn w i
+
+-- a tick: the next wheel, the timers that came due, and how many were visited
+pub tickedIn : Wheel → Ticked
+tickedIn w = turnedIn w
+
+-- the position
+pub positionIn : Wheel → ℕ
+positionIn w = w .position
+
+-- the spoke of a timer
+pub spokeIn : Wheel → ℕ → ℕ
+spokeIn w i = getD (w .spoke) i 0
+
+-- the turns left to a timer
+pub turnsIn : Wheel → ℕ → ℕ
+turnsIn w i = getD (w .turns) i 0
+
+-- ---- the timers that come due
+
+-- the ids of a set of timers, in ascending order
+pub idsOf : Due → List ℕ
+idsOf d = members 32 (d .ids)
+
+-- a set without its lowest id
+pub withoutFirst : Due → Due
+withoutFirst d = lowestOff d
+
+-- the set of the timers that come due at the next tick
+pub dueOf : Hung → Due
+dueOf h = lastTick h
+
+-- what a tick gives
+unfoldable pub tickedOf : Hung → Ticked
+tickedOf h = record { wheel = wheelOf (ticked h); due = dueOf h; visits = onNext h }
+
+-- ---- a list of ids
+
+-- the first, or 32 for none
+abbrev pub first : List ℕ → ℕ
+first [] = 32
+first (i ∷ is) = i
+
+-- the others
+abbrev pub rest : List ℕ → List ℕ
+rest [] = []
+rest (i ∷ is) = is
