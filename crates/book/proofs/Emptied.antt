@@ -2,7 +2,7 @@
 -- Assumes nothing.
 use Prim.Native.Nat.{ℕ, _≤_}
 use mathlib.Core.Path.{_≡_, refl, sym, ap, _∙_, subst}
-use mathlib.Core.Bool.{Bool, true, false, cond, _&&_}
+use mathlib.Core.Bool.{Bool, true, false, cond}
 use mathlib.Core.List.{List}
 use native.Mathlib.Omega.{arith}
 use lib.ListN.{length}
@@ -15,14 +15,15 @@ use Rattle.calls.specs.declared.Call.{Call}
 use Rattle.calls.specs.declared.Call.the-variants.{Broadcast}
 use Rattle.calls.specs.Answers.{numberOf}
 use Rattle.rules.specs.Queues.{First, nobody, somebody}
-use Rattle.rules.specs.State.{Where, running, ready, onCondition, same, waits, Thread, Rows, Scheduler, State, thread, at, priority, withThreads, stand, firstAt, arrive, arriveInFront}
-use Rattle.rules.specs.Next.{run, runFirst, higher, equal, chooseNext}
+use Rattle.rules.specs.State.{Where, running, ready, onCondition, same, Rows, Scheduler, State, thread, at, withThreads, stand, firstAt, arrive, arriveInFront}
+use Rattle.rules.specs.Next.{run, runFirst, chooseNext}
 use Rattle.rules.specs.Effects.{withScheduler, effect}
 use Rattle.rules.specs.Refusals.{tests, verdictOf}
 use Rattle.rules.specs.Sound.{sound}
 use Rattle.rules.specs.Step.{Stepped, isTick, after, step}
 use Rattle.rules.specs.Page.{pageOf}
 use Rattle.soundness.proofs.Rows.{at-stand}
+use Rattle.soundness.proofs.Choice.{choice}
 use Rattle.soundness.proofs.Tested.{sound-facts}
 use Rattle.soundness.proofs.Keeping.{Clear}
 use Rattle.book.specs.Book as book
@@ -62,27 +63,16 @@ module _ (c : ℕ) where
   unfolding runFirst
   empty-run-first h none = empty-run h (firstAt h ready) none
 
-  -- of two where nobody stands, whichever is chosen
-  either : (b : Bool) (g h : Scheduler) → Empty c (g .rows) → Empty c (h .rows) → Empty c (cond b g h .rows)
-  either true g h p q = p
-  either false g h p q = q
-
+  -- of two states where nobody stands, whichever is chosen
   either-state : (b : Bool) (r s : State) → Empty c (r .scheduler .rows) → Empty c (s .scheduler .rows) → Empty c (cond b r s .scheduler .rows)
   either-state true r s p q = p
   either-state false r s p q = q
 
   empty-chosen : (tick : Bool) (h : Scheduler) → Empty c (h .rows) → Empty c (chooseNext tick h .rows)
-  unfolding chooseNext
   empty-chosen tick h none =
       let caller = h .rows .runner in
-      let own = priority (h .rows) caller in
-      let best = firstAt h ready in
-      let preempted = runFirst (arriveInFront h caller) in
-      let rotated = runFirst (arrive h caller ready) in
       let back : Empty c (stand (h .rows) caller ready) = empty-stand (h .rows) caller ready (unfold same in refl) none in
-      either (waits (thread (h .rows) caller .stands)) (runFirst h) (cond (higher best own) preempted (cond (tick && equal best own) rotated h)) (empty-run-first h none)
-      (either (higher best own) preempted (cond (tick && equal best own) rotated h) (empty-run-first (arriveInFront h caller) (unfold arriveInFront in back))
-      (either (tick && equal best own) rotated h (empty-run-first (arrive h caller ready) (unfold arrive in back)) none))
+      choice (λ g. Empty c (g .rows)) tick h none (empty-run-first h none) (empty-run-first (arriveInFront h caller) (unfold arriveInFront in back)) (empty-run-first (arrive h caller ready) (unfold arrive in back))
 
   empty-after : (s : State) (call : Call) → Empty c (effect s call .scheduler .rows) → Empty c (after s call .scheduler .rows)
   unfolding after

@@ -1,14 +1,14 @@
 -- Ids are given in order and never again: the accepted calls that create in one table give one number after the other, from the number of those
 -- that are there at the beginning.
 -- Assumes nothing.
-use Prim.Native.Nat.{ℕ, zero, suc, _+_, _-_, _<_, _≤_}
+use Prim.Native.Nat.{ℕ, zero, suc, _+_, _<_, _≤_}
 use mathlib.Core.Path.{_≡_, refl, sym, ap, ap₂, _∙_, subst}
 use mathlib.Core.Bool.{Bool, true, false, cond, _&&_, false≢true}
 use mathlib.Core.Logic.{_⊎_, inl, inr}
 use mathlib.Core.List.{List, [], _∷_, _++_}
 use native.Mathlib.Omega.{arith}
 use lib.ListN.{getD, length, length-set, length-map, length-append}
-use lib.Dec.{eqb, ltb}
+use lib.Dec.{eqb}
 use borrow.Author.Tests.{eqb-true, ne-eqb}
 use Rattle.laws.specs.Bools.{no-way, and-true, and-false, cond-false}
 use Rattle.units.specs.Units.{ticksIn}
@@ -16,130 +16,26 @@ use Rattle.calls.specs.declared.Call.{Call}
 use Rattle.calls.specs.declared.Call.the-variants.{Start, CreateThread, CreateMutex, CreateCondition, CreateTimer, Acquire, Release, Wait, Signal, Broadcast, StartTimer, StopTimer, Tick}
 use Rattle.calls.specs.declared.Decoded.{Decoded}
 use Rattle.calls.specs.declared.Decoded.the-variants.{Taken, WrongForm}
-use Rattle.rules.specs.Queues.{First, nobody, somebody}
-use Rattle.rules.specs.State.{Where, running, ready, forMutex, onCondition, Thread, Mutex, Timer, Rows, Scheduler, State, stoppedTimer, thread, mutex, tied, waits, priority, stand, own, tie, firstAt, arrive, arriveInFront, depart, withRows, withThreads}
-use Rattle.rules.specs.Next.{run, runFirst, higher, equal, chooseNext}
-use Rattle.rules.specs.Effects.{stateOf, ticked, threadCreated, mutexCreated, conditionCreated, acquired, passedTo, released, waited, woken, untied, signalledTo, signalled, signalledTimes, dueConditions, signalledEach, withScheduler, withTimers, effect, given}
+use Rattle.rules.specs.State.{ready, Thread, Timer, Rows, Scheduler, State, stoppedTimer, withThreads, withRows}
+use Rattle.rules.specs.Next.{chooseNext}
+use Rattle.rules.specs.Effects.{stateOf, ticked, threadCreated, mutexCreated, conditionCreated, dueConditions, withScheduler, withTimers, effect, given}
 use Rattle.rules.specs.Sound.{sound}
-use Rattle.rules.specs.Step.{Stepped, isTick, after, accepted, step, stepDecoded}
+use Rattle.rules.specs.Step.{Stepped, isTick, after, step, stepDecoded}
+use Rattle.soundness.proofs.Sizes.{Sizes, sizes-same, sizes-arrive, sizes-first, sizes-next, sizes-acquired, sizes-released, sizes-waited, sizes-signalled, sizes-times, sizes-each}
 use Rattle.soundness.proofs.Kept.{decoded-keeps}
 use Rattle.book.specs.Answers.{answersOf, finalOf}
 use Rattle.book.specs.History.{callNumber, accepts, Table, threads, mutexes, conditions, timers, creator, size, idsGiven, upFrom}
 use Rattle.book.proofs.Accepted.{by-answer, after-unchosen}
 
--- ---- what moves threads, mutexes and ties leaves their number as it was
+-- ---- one row
 
 -- how many threads, mutexes and condition variables there are
 abbrev sizes : Rows → List ℕ
 sizes k = length (k .threads) ∷ length (k .mutexes) ∷ length (k .ties) ∷ []
 
--- a scheduler has as many of each as another
-record Keeps (h g : Scheduler) : Type 0 where
-  pub same : sizes (g .rows) ≡ sizes (h .rows)
-
--- of two that have, whichever is chosen
-either : {h g i : Scheduler} (b : Bool) → Keeps h g → Keeps h i → Keeps h (cond b g i)
-either true p q = p
-either false p q = q
-
--- one after the other
-then-keeps : {h g i : Scheduler} → Keeps h g → Keeps g i → Keeps h i
-then-keeps p q = record { same = q .same ∙ p .same }
-
-sizes-stand : (k : Rows) (t : ℕ) (w : Where) → sizes (stand k t w) ≡ sizes k
-unfolding stand
-sizes-stand k t w = rw (length-set (k .threads) t (record { base = thread k t .base; stands = w }))
-
-sizes-own : (k : Rows) (m t n : ℕ) → sizes (own k m t n) ≡ sizes k
-unfolding own
-sizes-own k m t n = rw (length-set (k .mutexes) m (record { ceiling = mutex k m .ceiling; owner = t; count = n }))
-
-sizes-tie : (k : Rows) (c m : ℕ) → sizes (tie k c m) ≡ sizes k
-unfolding tie
-sizes-tie k c m = rw (length-set (k .ties) c m)
-
-keeps-arrive : (h : Scheduler) (t : ℕ) (w : Where) → Keeps h (arrive h t w)
-unfolding arrive
-keeps-arrive h t w = record { same = sizes-stand (h .rows) t w }
-
-keeps-front : (h : Scheduler) (t : ℕ) → Keeps h (arriveInFront h t)
-unfolding arriveInFront
-keeps-front h t = record { same = sizes-stand (h .rows) t ready }
-
-keeps-own : (h : Scheduler) (m t n : ℕ) → Keeps h (withRows h (own (h .rows) m t n))
-keeps-own h m t n = record { same = sizes-own (h .rows) m t n }
-
-keeps-run : (h : Scheduler) (f : First) → Keeps h (run h f)
-unfolding run
-keeps-run h nobody = record { same = refl }
-keeps-run h (somebody p t) = record { same = sizes-stand (h .rows) t running }
-
-keeps-run-first : (h : Scheduler) → Keeps h (runFirst h)
-unfolding runFirst
-keeps-run-first h = keeps-run h (firstAt h ready)
-
-keeps-chosen : (tick : Bool) (h : Scheduler) → Keeps h (chooseNext tick h)
-unfolding chooseNext
-keeps-chosen tick h =
-    let caller = h .rows .runner in
-    let own-priority = priority (h .rows) caller in
-    let stays : Keeps h h = record { same = refl } in
-    either (waits (thread (h .rows) caller .stands)) (keeps-run-first h)
-    (either (higher (firstAt h ready) own-priority) (then-keeps (keeps-front h caller) (keeps-run-first (arriveInFront h caller)))
-    (either (tick && equal (firstAt h ready) own-priority) (then-keeps (keeps-arrive h caller ready) (keeps-run-first (arrive h caller ready))) stays))
-
-keeps-acquired : (h : Scheduler) (m : ℕ) → Keeps h (acquired h m)
-unfolding acquired
-keeps-acquired h m =
-    let caller = h .rows .runner in
-    let mine = mutex (h .rows) m in
-    either (eqb (mine .owner) caller) (keeps-own h m caller (mine .count + 1))
-    (either (eqb (mine .owner) 255) (keeps-own h m caller 1) (keeps-arrive h caller (forMutex m)))
-
-keeps-passed : (h : Scheduler) (m : ℕ) (f : First) → Keeps h (passedTo h m f)
-unfolding passedTo depart
-keeps-passed h m nobody = keeps-own h m 255 0
-keeps-passed h m (somebody p t) = record { same = keeps-arrive _ t ready .same ∙ sizes-own (h .rows) m t 1 }
-
-keeps-released : (h : Scheduler) (m : ℕ) → Keeps h (released h m)
-unfolding released
-keeps-released h m =
-    let mine = mutex (h .rows) m in
-    either (ltb 1 (mine .count)) (keeps-own h m (mine .owner) (mine .count - 1)) (keeps-passed h m (firstAt h (forMutex m)))
-
-keeps-waited : (h : Scheduler) (c m : ℕ) → Keeps h (waited h c m)
-unfolding waited
-keeps-waited h c m = record { same = keeps-arrive _ _ (onCondition c) .same ∙ sizes-tie (released h m .rows) c m ∙ keeps-released h m .same }
-
-keeps-woken : (h : Scheduler) (m t : ℕ) → Keeps h (woken h m t)
-unfolding woken
-keeps-woken h m t = either (eqb (mutex (h .rows) m .owner) 255) (record { same = keeps-arrive _ t ready .same ∙ sizes-own (h .rows) m t 1 }) (keeps-arrive h t (forMutex m))
-
-keeps-untied : (h : Scheduler) (c : ℕ) (f : First) → Keeps h (untied h c f)
-unfolding untied
-keeps-untied h c nobody = record { same = sizes-tie (h .rows) c 255 }
-keeps-untied h c (somebody p t) = record { same = refl }
-
-keeps-signalled-to : (h : Scheduler) (c : ℕ) (f : First) → Keeps h (signalledTo h c f)
-unfolding signalledTo depart
-keeps-signalled-to h c nobody = record { same = refl }
-keeps-signalled-to h c (somebody p t) = record { same = keeps-woken _ _ t .same ∙ keeps-untied _ c _ .same }
-
-keeps-signalled : (h : Scheduler) (c : ℕ) → Keeps h (signalled h c)
-unfolding signalled
-keeps-signalled h c = keeps-signalled-to h c (firstAt h (onCondition c))
-
-keeps-times : (n : ℕ) (h : Scheduler) (c : ℕ) → Keeps h (signalledTimes n h c)
-unfolding signalledTimes
-keeps-times zero h c = record { same = refl }
-keeps-times (suc n) h c = then-keeps (keeps-signalled h c) (keeps-times n (signalled h c) c)
-
-keeps-each : (h : Scheduler) (cs : List ℕ) → Keeps h (signalledEach h cs)
-unfolding signalledEach
-keeps-each h [] = record { same = refl }
-keeps-each h (c ∷ cs) = then-keeps (keeps-signalled h c) (keeps-each (signalled h c) cs)
-
--- ---- one row
+-- a scheduler with as many of each
+sizes-alike : {h g : Scheduler} → Sizes h g → sizes (g .rows) ≡ sizes (h .rows)
+sizes-alike z = λ i. z .threads i ∷ z .mutexes i ∷ z .ties i ∷ []
 
 -- the tables of a state by those of its scheduler and its timers
 sizeOf : Table → List ℕ → ℕ → ℕ
@@ -156,8 +52,8 @@ size-of conditions s = refl
 size-of timers s = refl
 
 -- states with as many of each
-size-same : (x : Table) (s r : State) → Keeps (s .scheduler) (r .scheduler) → length (r .timers) ≡ length (s .timers) → size x r ≡ size x s
-size-same x s r k l = size-of x r ∙ ap₂ (sizeOf x) (k .same) l ∙ sym (size-of x s)
+size-same : (x : Table) (s r : State) → Sizes (s .scheduler) (r .scheduler) → length (r .timers) ≡ length (s .timers) → size x r ≡ size x s
+size-same x s r k l = size-of x r ∙ ap₂ (sizeOf x) (sizes-alike k) l ∙ sym (size-of x s)
 
 -- a table after a call: one more where the call creates there
 unfoldable grown : Table → Call → ℕ → ℕ
@@ -186,12 +82,12 @@ module _ (x : Table) (s : State) where
       apart (inr l) z = omega (arith, creator-to x)
 
   -- the scheduler alone changes, and has as many of each
-  kept : (call : Call) (h : Scheduler) → (callNumber call < 2) ⊎ (5 < callNumber call) → Keeps (s .scheduler) h → size x (withScheduler s h) ≡ grown x call (size x s)
-  kept call h low k = uncreated call (withScheduler s h) low (size-same x s (withScheduler s h) k refl)
+  kept : (call : Call) (h : Scheduler) → (callNumber call < 2) ⊎ (5 < callNumber call) → sizes (h .rows) ≡ sizes (s .scheduler .rows) → size x (withScheduler s h) ≡ grown x call (size x s)
+  kept call h low k = uncreated call (withScheduler s h) low (size-of x (withScheduler s h) ∙ ap (λ l. sizeOf x l (length (s .timers))) k ∙ sym (size-of x s))
 
   -- the timers alone change, and are as many
   timed : (call : Call) (ts : List Timer) → (callNumber call < 2) ⊎ (5 < callNumber call) → length ts ≡ length (s .timers) → size x (withTimers s ts) ≡ grown x call (size x s)
-  timed call ts low l = uncreated call (withTimers s ts) low (size-same x s (withTimers s ts) (record { same = refl }) l)
+  timed call ts low l = uncreated call (withTimers s ts) low (size-same x s (withTimers s ts) (sizes-same (s .scheduler)) l)
 
 -- the four tables after each of the four calls that create
 module _ (s : State) where
@@ -231,7 +127,7 @@ thread-more : (h : Scheduler) (base : ℕ) → sizes (threadCreated h base .rows
 unfolding threadCreated
 thread-more h base =
     let new : Thread = record { base = base; stands = ready } in
-    keeps-arrive (withRows h (withThreads (h .rows) (h .rows .threads ++ (new ∷ [])))) (length (h .rows .threads)) ready .same
+    sizes-alike (sizes-arrive (withRows h (withThreads (h .rows) (h .rows .threads ++ (new ∷ [])))) (length (h .rows .threads)) ready)
     ∙ ap (λ n. n ∷ length (h .rows .mutexes) ∷ length (h .rows .ties) ∷ []) (one-longer (h .rows .threads) new)
 
 mutex-more : (h : Scheduler) (ceiling : ℕ) → sizes (mutexCreated h ceiling .rows) ≡ length (h .rows .threads) ∷ suc (length (h .rows .mutexes)) ∷ length (h .rows .ties) ∷ []
@@ -245,25 +141,25 @@ condition-more h = ap (λ n. length (h .rows .threads) ∷ length (h .rows .mute
 
 effect-size : (x : Table) (s : State) (call : Call) → size x (effect s call) ≡ grown x call (size x s)
 unfolding effect callNumber
-effect-size x s Start = kept x s Start _ (inl (omega arith)) (record { same = keeps-run-first (s .scheduler) .same })
+effect-size x s Start = kept x s Start _ (inl (omega arith)) (sizes-alike (sizes-first (s .scheduler)))
 effect-size x s (CreateThread base) = size-of x (effect s (CreateThread base)) ∙ ap (λ l. sizeOf x l (length (s .timers))) (thread-more (s .scheduler) base) ∙ made-thread s x base
 effect-size x s (CreateMutex ceiling) = size-of x (effect s (CreateMutex ceiling)) ∙ ap (λ l. sizeOf x l (length (s .timers))) (mutex-more (s .scheduler) ceiling) ∙ made-mutex s x ceiling
 effect-size x s CreateCondition = size-of x (effect s CreateCondition) ∙ ap (λ l. sizeOf x l (length (s .timers))) (condition-more (s .scheduler)) ∙ made-condition s x
 effect-size x s CreateTimer = size-of x (effect s CreateTimer) ∙ ap (sizeOf x (sizes (s .scheduler .rows))) (one-longer (s .timers) stoppedTimer) ∙ made-timer s x
-effect-size x s (Acquire m) = kept x s (Acquire m) _ (inr (omega arith)) (keeps-acquired (s .scheduler) m)
-effect-size x s (Release m) = kept x s (Release m) _ (inr (omega arith)) (keeps-released (s .scheduler) m)
-effect-size x s (Wait c m) = kept x s (Wait c m) _ (inr (omega arith)) (keeps-waited (s .scheduler) c m)
-effect-size x s (Signal c) = kept x s (Signal c) _ (inr (omega arith)) (keeps-signalled (s .scheduler) c)
-effect-size x s (Broadcast c) = kept x s (Broadcast c) _ (inr (omega arith)) (keeps-times 32 (s .scheduler) c)
+effect-size x s (Acquire m) = kept x s (Acquire m) _ (inr (omega arith)) (sizes-alike (sizes-acquired (s .scheduler) m))
+effect-size x s (Release m) = kept x s (Release m) _ (inr (omega arith)) (sizes-alike (sizes-released (s .scheduler) m))
+effect-size x s (Wait c m) = kept x s (Wait c m) _ (inr (omega arith)) (sizes-alike (sizes-waited (s .scheduler) c m))
+effect-size x s (Signal c) = kept x s (Signal c) _ (inr (omega arith)) (sizes-alike (sizes-signalled (s .scheduler) c))
+effect-size x s (Broadcast c) = kept x s (Broadcast c) _ (inr (omega arith)) (sizes-alike (sizes-times 32 (s .scheduler) c))
 effect-size x s (StartTimer i c kind v) = timed x s (StartTimer i c kind v) _ (inr (omega arith)) (length-set (s .timers) i (record { state = stateOf kind; condition = c; length = ticksIn (v .0); left = ticksIn (v .0) }))
 effect-size x s (StopTimer i) = timed x s (StopTimer i) _ (inr (omega arith)) (length-set (s .timers) i stoppedTimer)
-effect-size x s Tick = uncreated x s Tick (effect s Tick) (inr (omega arith)) (size-same x s (effect s Tick) (keeps-each (s .scheduler) (dueConditions (s .timers))) (length-map (s .timers) ticked))
+effect-size x s Tick = uncreated x s Tick (effect s Tick) (inr (omega arith)) (size-same x s (effect s Tick) (sizes-each (dueConditions (s .timers)) (s .scheduler)) (length-map (s .timers) ticked))
 
 -- the choice of the next thread creates nothing
 after-size : (x : Table) (s : State) (call : Call) → size x (after s call) ≡ grown x call (size x s)
 after-size x s call =
     let chosen = withScheduler (effect s call) (chooseNext (isTick call) (effect s call .scheduler)) in
-    after-unchosen (size x) s call (size-same x (effect s call) chosen (keeps-chosen (isTick call) (effect s call .scheduler)) refl) ∙ effect-size x s call
+    after-unchosen (size x) s call (size-same x (effect s call) chosen (sizes-next (isTick call) (effect s call .scheduler)) refl) ∙ effect-size x s call
 
 -- the table that a call creates in
 abbrev tableOf : ℕ → Table

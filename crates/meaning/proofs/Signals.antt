@@ -31,7 +31,7 @@ use Rattle.soundness.proofs.Moves.{first-at, first-stands, first-exists, queued
 use Rattle.soundness.proofs.Next.{Kept, Turned}
 use Rattle.soundness.proofs.Calls.{Going, Left, left-signalled, nobody-255, stands-there, low-taken}
 use Rattle.meaning.specs.Stands.{threadsOf, mutexIn, schedulerOf}
-use Rattle.meaning.proofs.Choice.{choice}
+use Rattle.soundness.proofs.Choice.{choice}
 use Rattle.meaning.proofs.Fresh.{has-set}
 use Rattle.meaning.proofs.Joining.{headOf, head-stands}
 use Rattle.meaning.proofs.Threads.{ranOf, run-first-stands, choose-next-stands}
