@@ -34,7 +34,7 @@ use Rattle.meaning.proofs.Fresh.{has-set}
 use Rattle.meaning.proofs.Joining.{headOf, head-stands}
 use Rattle.meaning.proofs.Threads.{arrive-stands, wait-stands, leave-stands, stand-same}
 use Rattle.meaning.proofs.Owning.{mutex-read, own-stands, recount-stands}
-use Rattle.meaning.proofs.Sets.{set-read, Narrow, setOf, withSet, set-found, set-stored, tie-put}
+use Rattle.meaning.proofs.Sets.{Narrow, setOf, withSet, set-found, set-stored, tie-put}
 
 -- ---- arriving, for a thread that has left its queue
 
@@ -88,6 +88,10 @@ module _ (h : Scheduler) (q : Queued (h .rows) (h .sets)) (few : length (h .rows
       ap (withSet (schedulerOf h) w) (leaves-there w z r n)
       ∙ (unfold depart in (set-stored h (h .rows .threads) w z r n (has-set q w r) (firstLeaves (setAt (h .sets) w) p)))
 
+-- the head of a mutex's or a condition variable's set
+pub head-there : {h : Scheduler} → Kept h → (w : Where) → waits w ≡ true → Real (h .rows) w → Narrow (h .rows) w → headModel (setOf (schedulerOf h) w) ≡ headOf (firstAt h w)
+head-there {h} o w z r n = ap headModel (set-found h w z r n) ∙ head-stands (o .queued) (o .facts .few) w r
+
 -- ---- 6 and 7
 
 module _ {h : Scheduler} (o : Kept h) (g : Going (h .rows)) (m : ℕ) (real : m < length (h .rows .mutexes)) where
@@ -101,7 +105,7 @@ module _ {h : Scheduler} (o : Kept h) (g : Going (h .rows)) (m : ℕ) (real : m 
   row-of = unfold schedulerOf in (mutex-read (h .rows) m real short)
 
   pub head-of-mutex : headModel (forMutexOf (schedulerOf h) m) ≡ headOf (firstAt h (forMutex m))
-  head-of-mutex = unfold schedulerOf in (ap headModel (set-read (h .sets) forMutex m (omega (arith, short))) ∙ head-stands (o .queued) (o .facts .few) (forMutex m) real)
+  head-of-mutex = head-there o (forMutex m) refl real short
 
   passes-to : (mine : mutex (h .rows) m .owner ≡ h .rows .runner) (f : First) → firstAt h (forMutex m) ≡ f → cond (leb 16 (headOf f .priority)) (ownModel x m 255 0) (passToModel x m (headOf f)) ≡ schedulerOf (passedTo h m f)
   unfolding passedTo

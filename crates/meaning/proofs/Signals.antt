@@ -36,8 +36,8 @@ use Rattle.meaning.proofs.Fresh.{has-set}
 use Rattle.meaning.proofs.Joining.{headOf, head-stands}
 use Rattle.meaning.proofs.Threads.{ranOf, run-first-stands, choose-next-stands}
 use Rattle.meaning.proofs.Owning.{mutex-read, own-stands}
-use Rattle.meaning.proofs.Sets.{set-read, tie-read}
-use Rattle.meaning.proofs.Calls.{ready-stands, wait-for-stands, leaves-there, departs-there, tie-stands}
+use Rattle.meaning.proofs.Sets.{tie-read}
+use Rattle.meaning.proofs.Calls.{ready-stands, wait-for-stands, leaves-there, departs-there, head-there, tie-stands}
 
 -- ---- waking
 
@@ -73,7 +73,7 @@ module _ {h : Scheduler} (o : Kept h) (c : ℕ) (there : c < length (h .rows .ti
   its-mutex = tied (h .rows) c
 
   pub head-of-condition : headModel (onConditionOf (schedulerOf h) c) ≡ headOf (firstAt h (onCondition c))
-  head-of-condition = unfold schedulerOf in (ap headModel (set-read (h .sets) onCondition c (omega (arith, o .facts .few-ties))) ∙ head-stands (o .queued) (o .facts .few) (onCondition c) there)
+  head-of-condition = head-there o (onCondition c) refl there (o .facts .few-ties)
 
   module _ (p t : ℕ) (e : firstAt h (onCondition c) ≡ somebody p t) where
     abbrev d : Scheduler
