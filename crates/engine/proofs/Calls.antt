@@ -16,7 +16,7 @@ use Rattle.calls.specs.declared.Call.{Call}
 use Rattle.calls.specs.declared.Call.the-variants.{Start, CreateThread, CreateMutex, CreateCondition, CreateTimer, Acquire, Release, Wait, Signal, Broadcast}
 use Rattle.calls.specs.Answers.{numberOf}
 use Rattle.scheduler.specs.declared.Scheduler as scheduled
-use Rattle.scheduler.specs.Models.{Signalled}
+use Rattle.scheduler.specs.declared.Signalled.{Signalled}
 use Rattle.scheduler.specs.Models as scheduler
 use Rattle.wheel.specs.Hung as hung
 use Rattle.wheel.specs.Hung.{left}

@@ -8,7 +8,7 @@ use native.Mathlib.Omega.{arith}
 use borrow.Author.Tests.{le-leb, lt-leb}
 use Rattle.wheel.specs.Wheels.{first, rest}
 use Rattle.engine.specs.declared.Engine.{Engine}
-use Rattle.engine.specs.Models.{Effect}
+use Rattle.engine.specs.declared.Effect.{Effect}
 use Rattle.engine.specs.Models.{serveModel, serveAllModel}
 
 -- what serving comes to from where n are served

@@ -16,16 +16,19 @@ use Rattle.rules.specs.Page.{stateCode, objectCode, timerCode}
 use Rattle.meaning.specs.Stands.{allSets, threadsOf, schedulerOf}
 use Rattle.calls.specs.declared.Call.{Call}
 use Rattle.calls.specs.declared.Call.the-variants.{Start, CreateThread, CreateMutex, CreateCondition, CreateTimer, Acquire, Release, Wait, Signal, Broadcast, StartTimer, StopTimer, Tick}
+use Rattle.calls.specs.declared.Decoded.the-variants.{WrongForm}
+use Rattle.calls.specs.declared.Verdict.the-variants.{WrongRow}
 use Rattle.rules.specs.State.{State, highestCeiling, priority, setAt, boot}
 use Rattle.rules.specs.Sound.{sound}
-use Rattle.rules.specs.Step.{step, stepSound}
+use Rattle.rules.specs.Step.{step, stepSound, stepDecoded}
 use Rattle.soundness.proofs.Facts.{Sound}
 use Rattle.soundness.proofs.Tested.{sound-facts}
 use Rattle.soundness.proofs.Kept.{sound-steps}
 use Rattle.engine.specs.declared.Stepped.{Stepped}
 use Rattle.engine.specs.declared.Engine.{Engine}
-use Rattle.engine.specs.Models.{bootModel, stepModel}
+use Rattle.engine.specs.Models.{bootModel, refusedModel, stepModel}
 use Rattle.engine.specs.Stands.{engineOf, steppedOf}
+use Rattle.engine.proofs.Answers.{refused-stands}
 use Rattle.engine.proofs.Calls.{start-steps, create-thread-steps, create-mutex-steps, create-condition-steps, create-timer-steps, acquire-steps, release-steps, wait-steps, signal-steps, broadcast-steps}
 use Rattle.engine.proofs.Timers.{start-timer-steps, stop-timer-steps}
 use Rattle.engine.proofs.Tick.{tick-steps}
@@ -54,6 +57,16 @@ engine-steps s e call = steps (sound-facts s e) call ∙ ap steppedOf (sym (soun
 pub step-promise : (x : Engine) (call : Call) (r : Stepped) → r ≡ stepModel x call
     → (r ≡ stepModel x call) × ((s : State) → sound s ≡ true → x ≡ engineOf s → r ≡ steppedOf (step s call))
 step-promise x call r e = (e, λ s o d. e ∙ ap (λ y. stepModel y call) d ∙ engine-steps s o call)
+
+-- 17 of the engine that describes a sound state is document 01's 17
+wrong-steps : (s : State) → sound s ≡ true → refusedModel (engineOf s) WrongRow ≡ steppedOf (stepDecoded s WrongForm)
+unfolding stepDecoded
+wrong-steps s e = rw e (refused-stands s WrongRow)
+
+-- so every result that the model of 17 allows is the definition's
+pub wrong-promise : (x : Engine) (r : Stepped) → r ≡ refusedModel x WrongRow
+    → (r ≡ refusedModel x WrongRow) × ((s : State) → sound s ≡ true → x ≡ engineOf s → r ≡ steppedOf (stepDecoded s WrongForm))
+wrong-promise x r e = (e, λ s o d. e ∙ ap (λ y. refusedModel y WrongRow) d ∙ wrong-steps s o)
 
 -- boot is document 01's boot
 pub boot-stands : bootModel ≡ engineOf boot

@@ -18,7 +18,7 @@ use Rattle.laws.specs.Lists.{by-below, tabulate, getD-tabulate, length-tabulate
 use Rattle.calls.specs.declared.Call.the-variants.{Tick}
 use Rattle.calls.specs.declared.Verdict.the-variants.{Done, Stopped}
 use Rattle.calls.specs.Answers.{numberOf}
-use Rattle.scheduler.specs.Models.{Signalled}
+use Rattle.scheduler.specs.declared.Signalled.{Signalled}
 use Rattle.scheduler.specs.Models as scheduler
 use Rattle.wheel.specs.declared.Ticked.{Ticked}
 use Rattle.wheel.specs.Hung as hung
@@ -45,7 +45,7 @@ use Rattle.meaning.proofs.Signals.{signal-stands}
 use Rattle.soundness.proofs.Sizes.{sizes-each}
 use Rattle.engine.specs.declared.Timer as engine
 use Rattle.engine.specs.declared.Engine.{Engine}
-use Rattle.engine.specs.Models as served
+use Rattle.engine.specs.declared.Effect.{Effect}
 use Rattle.engine.specs.Models.{stoppedRow, noTimer, timerOf, withScheduler, withTimer, withWheel, answeredModel, refusedModel, serveModel, serveAllModel, turned, tickModel}
 use Rattle.engine.specs.Stands.{timerIn, hungOf, engineOf, steppedOf}
 use Rattle.engine.proofs.Answers.{refused-stands, answered-stands}
@@ -355,7 +355,7 @@ module _ {s : State} (o : Sound s) where
   given-so : 0 + length dueIds ≡ given s Tick
   given-so = unfold given in (omega (arith, length-map dueIds (λ i. timer (s .timers) i .condition), ap length conditions-so))
 
-  abbrev all-served : served.Effect
+  abbrev all-served : Effect
   all-served = serveAllModel 32 0 (turned (engineOf s)) (idsOf (tickedIn (engineOf s .wheel) .due))
 
   serves : k .started ≡ true → all-served ≡ record { engine = engineOf (effect s Tick); given = given s Tick }
@@ -380,7 +380,7 @@ module _ {s : State} (o : Sound s) where
 
       started : k .started ≡ true → cond (engineOf s .started) (answeredModel (all-served .engine) (all-served .given) true) (refusedModel (engineOf s) Stopped) ≡ steppedOf (stepSound s Tick)
       started on = cond-true (engineOf s .started) (answeredModel (all-served .engine) (all-served .given) true) (refusedModel (engineOf s) Stopped) (is-started ∙ on)
-          ∙ ap (λ (e : served.Effect). answeredModel (e .engine) (e .given) true) (serves on)
+          ∙ ap (λ (e : Effect). answeredModel (e .engine) (e .given) true) (serves on)
           ∙ answered-stands (effect s Tick) (given s Tick) true (ready-to-choose o Tick (verdict-on on))
           ∙ (unfold stepSound after in (sym (ap steppedOf (cond-true (eqb (numberOf (verdictOf s Tick)) 0) (accepted s Tick) (refused s (runner s) (verdictOf s Tick)) (eq-eqb (numberOf (verdictOf s Tick)) 0 (verdict-on on))))))
 

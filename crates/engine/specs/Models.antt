@@ -26,12 +26,8 @@ use Rattle.calls.specs.Answers.{numberOf}
 use Rattle.verdicts.specs.Models.{createdVerdict, roomVerdict, startVerdict, acquireVerdict, releaseVerdict, heldVerdict, idsVerdict, idVerdict, delayVerdict, stopVerdict, firstOf, ownedIn}
 use Rattle.engine.specs.declared.Timer.{Timer}
 use Rattle.engine.specs.declared.Engine.{Engine}
+use Rattle.engine.specs.declared.Effect.{Effect}
 use Rattle.engine.specs.declared.Stepped.{Stepped}
-
--- the engine that follows, and what was given
-pub record Effect : Type 0 where
-  pub engine : Engine
-  pub given : ℕ
 
 -- ---- small readings
 

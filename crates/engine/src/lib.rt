@@ -1,7 +1,11 @@
-// The engine: the scheduler, the timers with their wheel, and the tick count; and boot.
-// The thirteen calls stand in `plain` and `timed`, in place, and `turns` puts them together.
+// The engine: the scheduler, the timers with their wheel, and the tick count; boot, and the thirteen calls, by value: a call takes the engine, copies out
+// the part that it changes, stores it back, and hands the engine on with the answer.
+// An id is taken modulo the size of its table, so that every function is total; a call with an id that does not exist is refused first.
 use calls::Answer;
+use calls::Call;
 use calls::Kind;
+use calls::Verdict;
+use calls::number;
 use parts::Thread;
 use parts::Threads;
 use queue::Links;
@@ -10,12 +14,32 @@ use scheduler::Mutex;
 use scheduler::Scheduler;
 use units::Length;
 use units::Micros;
+use units::Ticks;
 use units::ticks_of;
+use verdicts::acquire_verdict;
+use verdicts::created_verdict;
+use verdicts::delay_verdict;
+use verdicts::first_of;
+use verdicts::held_verdict;
+use verdicts::id_verdict;
+use verdicts::ids_verdict;
+use verdicts::owned_by;
+use verdicts::release_verdict;
+use verdicts::room_verdict;
+use verdicts::start_verdict;
+use verdicts::stop_verdict;
+use wheel::Due;
 use wheel::Wheel;
 ghost use mathlib.Core.Path.{_≡_};
-ghost use Rattle.rules.specs.State.{boot};
-ghost use Rattle.engine.specs.Stands.{engineOf};
-ghost use Rattle.engine.specs.Models.{bootModel, kindCode, lengthCode};
+ghost use mathlib.Core.Bool.{true};
+ghost use Rattle.calls.specs.declared.Decoded.the-variants.{WrongForm};
+ghost use Rattle.calls.specs.declared.Verdict.the-variants.{WrongRow};
+ghost use Rattle.rules.specs.State.{State, boot};
+ghost use Rattle.rules.specs.Sound.{sound};
+ghost use Rattle.rules.specs.Step.{step, stepDecoded};
+ghost use Rattle.engine.specs.Stands.{engineOf, steppedOf};
+ghost use Rattle.wheel.specs.Wheels.{idsOf};
+ghost use Rattle.engine.specs.Models.{bootModel, kindCode, lengthCode, refusedModel, answeredModel, startModel, createThreadModel, createMutexModel, createConditionModel, createTimerModel, acquireModel, releaseModel, waitModel, signalModel, broadcastModel, startTimerModel, stopTimerModel, serveModel, serveAllModel, tickModel, stepModel};
 
 // A timer's row: its state (0 stopped, 1 one-shot, 2 periodic), its condition variable, 255 for none, and its length in ticks.
 pub struct Timer {
@@ -35,6 +59,12 @@ pub struct Engine {
     pub conditions: u8,
     pub clocks: u8,
     pub count: u32,
+}
+
+// The engine that follows, and what was given.
+pub struct Effect {
+    pub engine: Engine,
+    pub given: u16,
 }
 
 // The engine that follows, with its answer.
@@ -123,5 +153,367 @@ impl Engine {
             clocks: 0,
             count: 0,
         }
+    }
+
+    // A refused call: nothing changes, given is 255.
+    fn refused(self, verdict: Verdict) -> Stepped
+        ensures { λ r. ⌜ r ≡ refusedModel self verdict ⌝ }
+    {
+        let n = number(verdict);
+        let answer = Answer {
+            number: n,
+            given: 255,
+            running: self.scheduler.running,
+        };
+        Stepped {
+            engine: self,
+            answer,
+        }
+    }
+
+    // An accepted call whose effect is done: while started the next thread is chosen.
+    fn answered(mut self, given: u16, tick: bool) -> Stepped
+        ensures { λ r. ⌜ r ≡ answeredModel self given tick ⌝ }
+    {
+        if self.started {
+            let scheduler = self.scheduler;
+            let chosen = scheduler.choose_next(tick);
+            let answer = Answer {
+                number: 0,
+                given,
+                running: chosen.running,
+            };
+            self.scheduler = chosen;
+            return Stepped {
+                engine: self,
+                answer,
+            };
+        }
+        let answer = Answer {
+            number: 0,
+            given,
+            running: self.scheduler.running,
+        };
+        Stepped {
+            engine: self,
+            answer,
+        }
+    }
+
+    // Call 1.
+    fn start(mut self) -> Stepped
+        ensures { λ r. ⌜ r ≡ startModel self ⌝ }
+    {
+        let verdict = start_verdict(self.started);
+        let n = number(verdict);
+        if n != 0 {
+            return self.refused(verdict);
+        }
+        let scheduler = self.scheduler;
+        let after = scheduler.run_first();
+        self.scheduler = after;
+        self.started = true;
+        self.answered(255, false)
+    }
+
+    // Call 2.
+    fn create_thread(mut self, base: u8) -> Stepped
+        ensures { λ r. ⌜ r ≡ createThreadModel self base ⌝ }
+    {
+        let id = self.threads;
+        let verdict = created_verdict(base, id, 32);
+        let n = number(verdict);
+        if n != 0 {
+            return self.refused(verdict);
+        }
+        let scheduler = self.scheduler;
+        let after = scheduler.create(id, base);
+        self.scheduler = after;
+        self.threads = id % 32 + 1;
+        self.answered(id as u16, false)
+    }
+
+    // Call 3.
+    fn create_mutex(mut self, ceiling: u8) -> Stepped
+        ensures { λ r. ⌜ r ≡ createMutexModel self ceiling ⌝ }
+    {
+        let id = self.mutexes;
+        let verdict = created_verdict(ceiling, id, 16);
+        let n = number(verdict);
+        if n != 0 {
+            return self.refused(verdict);
+        }
+        let scheduler = self.scheduler;
+        let after = scheduler.create_mutex(id, ceiling);
+        self.scheduler = after;
+        self.mutexes = id % 16 + 1;
+        self.answered(id as u16, false)
+    }
+
+    // Call 4.
+    fn create_condition(mut self) -> Stepped
+        ensures { λ r. ⌜ r ≡ createConditionModel self ⌝ }
+    {
+        let id = self.conditions;
+        let verdict = room_verdict(id, 16);
+        let n = number(verdict);
+        if n != 0 {
+            return self.refused(verdict);
+        }
+        self.conditions = id % 16 + 1;
+        self.answered(id as u16, false)
+    }
+
+    // Call 5.
+    fn create_timer(mut self) -> Stepped
+        ensures { λ r. ⌜ r ≡ createTimerModel self ⌝ }
+    {
+        let id = self.clocks;
+        let verdict = room_verdict(id, 32);
+        let n = number(verdict);
+        if n != 0 {
+            return self.refused(verdict);
+        }
+        self.clocks = id % 32 + 1;
+        self.answered(id as u16, false)
+    }
+
+    // Call 6.
+    fn acquire(mut self, m: u8) -> Stepped
+        ensures { λ r. ⌜ r ≡ acquireModel self m ⌝ }
+    {
+        let scheduler = self.scheduler;
+        let running = scheduler.running;
+        let i = (m % 16) as usize;
+        let row = scheduler.mutexes[i];
+        let caller = scheduler.row(running);
+        let verdict = acquire_verdict(self.started, self.mutexes, m, running, row, caller.priority);
+        let n = number(verdict);
+        if n != 0 {
+            return self.refused(verdict);
+        }
+        let after = scheduler.acquire(m);
+        self.scheduler = after;
+        self.answered(255, false)
+    }
+
+    // Call 7.
+    fn release(mut self, m: u8) -> Stepped
+        ensures { λ r. ⌜ r ≡ releaseModel self m ⌝ }
+    {
+        let scheduler = self.scheduler;
+        let i = (m % 16) as usize;
+        let row = scheduler.mutexes[i];
+        let verdict = release_verdict(self.started, self.mutexes, m, scheduler.running, row.owner);
+        let n = number(verdict);
+        if n != 0 {
+            return self.refused(verdict);
+        }
+        let after = scheduler.release(m);
+        self.scheduler = after;
+        self.answered(255, false)
+    }
+
+    // Call 8.
+    fn wait(mut self, c: u8, m: u8) -> Stepped
+        ensures { λ r. ⌜ r ≡ waitModel self c m ⌝ }
+    {
+        let scheduler = self.scheduler;
+        let running = scheduler.running;
+        let i = (m % 16) as usize;
+        let row = scheduler.mutexes[i];
+        let j = (c % 16) as usize;
+        let tie = scheduler.ties[j];
+        let mutexes = scheduler.mutexes;
+        let owned = owned_by(mutexes, running);
+        let ids = ids_verdict(self.started, self.conditions, c, self.mutexes, m);
+        let held = held_verdict(m, running, row, owned, tie);
+        let verdict = first_of(ids, held);
+        let n = number(verdict);
+        if n != 0 {
+            return self.refused(verdict);
+        }
+        let after = scheduler.wait(c, m);
+        self.scheduler = after;
+        self.answered(255, false)
+    }
+
+    // Call 9.
+    fn signal(mut self, c: u8) -> Stepped
+        ensures { λ r. ⌜ r ≡ signalModel self c ⌝ }
+    {
+        let verdict = id_verdict(self.started, self.conditions, c);
+        let n = number(verdict);
+        if n != 0 {
+            return self.refused(verdict);
+        }
+        let scheduler = self.scheduler;
+        let signalled = scheduler.signal(c);
+        let after = signalled.scheduler;
+        self.scheduler = after;
+        self.answered(signalled.left, false)
+    }
+
+    // Call 10.
+    fn broadcast(mut self, c: u8) -> Stepped
+        ensures { λ r. ⌜ r ≡ broadcastModel self c ⌝ }
+    {
+        let verdict = id_verdict(self.started, self.conditions, c);
+        let n = number(verdict);
+        if n != 0 {
+            return self.refused(verdict);
+        }
+        let scheduler = self.scheduler;
+        let woken = scheduler.broadcast(c);
+        let after = woken.scheduler;
+        self.scheduler = after;
+        self.answered(woken.left, false)
+    }
+
+    // Call 11.
+    fn start_timer(mut self, id: u8, c: u8, kind: Kind, v: Micros) -> Stepped
+        ensures { λ r. ⌜ r ≡ startTimerModel self id c kind v ⌝ }
+    {
+        let i = (id % 32) as usize;
+        let row = self.timers[i];
+        let ids = ids_verdict(self.started, self.clocks, id, self.conditions, c);
+        let delay = delay_verdict(v, row.state);
+        let verdict = first_of(ids, delay);
+        let n = number(verdict);
+        if n != 0 {
+            return self.refused(verdict);
+        }
+        let length = length_of(v);
+        let state = state_of(kind);
+        self.timers[i] = Timer {
+            state,
+            condition: c,
+            length,
+        };
+        let wheel = self.wheel;
+        let after = wheel.start(id, Ticks(length));
+        self.wheel = after;
+        self.answered(255, false)
+    }
+
+    // Call 12.
+    fn stop_timer(mut self, id: u8) -> Stepped
+        ensures { λ r. ⌜ r ≡ stopTimerModel self id ⌝ }
+    {
+        let i = (id % 32) as usize;
+        let row = self.timers[i];
+        let ids = id_verdict(self.started, self.clocks, id);
+        let state = stop_verdict(row.state);
+        let verdict = first_of(ids, state);
+        let n = number(verdict);
+        if n != 0 {
+            return self.refused(verdict);
+        }
+        self.timers[i] = Timer {
+            state: 0,
+            condition: 255,
+            length: 0,
+        };
+        let wheel = self.wheel;
+        let after = wheel.stop(id);
+        self.wheel = after;
+        self.answered(255, false)
+    }
+
+    // Timer id has come due: it signals its condition variable; a periodic one is started again, a one-shot is stopped.
+    fn serve(mut self, id: u8) -> Engine
+        ensures { λ r. ⌜ r ≡ serveModel self id ⌝ }
+    {
+        let i = (id % 32) as usize;
+        let row = self.timers[i];
+        let scheduler = self.scheduler;
+        let signalled = scheduler.signal(row.condition);
+        let after = signalled.scheduler;
+        self.scheduler = after;
+        if row.state == 2 {
+            let wheel = self.wheel;
+            let again = wheel.start(id, Ticks(row.length));
+            self.wheel = again;
+            return self;
+        }
+        self.timers[i] = Timer {
+            state: 0,
+            condition: 255,
+            length: 0,
+        };
+        self
+    }
+
+    // The timers that have come due are served in order of id; 32 are all there are.
+    fn serve_all(self, due: Due) -> Effect
+        ensures { λ r. ⌜ r ≡ serveAllModel 32 0 self (idsOf due) ⌝ }
+    {
+        let mut engine = self;
+        let mut left = due;
+        let mut given: u16 = 0;
+        while given < 32 {
+            let id = left.first();
+            if 32 <= id {
+                return Effect { engine, given };
+            }
+            let after = engine.serve(id);
+            engine = after;
+            let next = left.rest();
+            left = next;
+            given += 1;
+        }
+        Effect { engine, given }
+    }
+
+    // Call 13.
+    fn tick(mut self) -> Stepped
+        ensures { λ r. ⌜ r ≡ tickModel self ⌝ }
+    {
+        if !self.started {
+            return self.refused(Verdict::Stopped);
+        }
+        let wheel = self.wheel;
+        let ticked = wheel.tick();
+        let after = ticked.wheel;
+        let due = ticked.due;
+        self.wheel = after;
+        self.count = ((self.count as u64 + 1) % 4294967296) as u32;
+        let first = due.first();
+        if 32 <= first {
+            return self.answered(0, true);
+        }
+        let effect = self.serve_all(due);
+        let served = effect.engine;
+        served.answered(effect.given, true)
+    }
+
+    // A call: for an engine that describes a sound state the engine that describes document 01's next state, with its answer.
+    pub fn step(self, call: Call) -> Stepped
+        ensures always { λ r. ⌜ r ≡ stepModel self call ⌝ }
+        ensures means { λ r. ⌜ ((s : State) → sound s ≡ true → self ≡ engineOf s → r ≡ steppedOf (step s call)) ⌝ }
+    {
+        match call {
+            Call::Start => self.start(),
+            Call::CreateThread(base) => self.create_thread(base),
+            Call::CreateMutex(ceiling) => self.create_mutex(ceiling),
+            Call::CreateCondition => self.create_condition(),
+            Call::CreateTimer => self.create_timer(),
+            Call::Acquire(m) => self.acquire(m),
+            Call::Release(m) => self.release(m),
+            Call::Wait(c, m) => self.wait(c, m),
+            Call::Signal(c) => self.signal(c),
+            Call::Broadcast(c) => self.broadcast(c),
+            Call::StartTimer(id, c, kind, v) => self.start_timer(id, c, kind, v),
+            Call::StopTimer(id) => self.stop_timer(id),
+            Call::Tick => self.tick(),
+        }
+    }
+
+    // A row of wrong form or cut short: 17, and nothing changes.
+    pub fn wrong_row(self) -> Stepped
+        ensures always { λ r. ⌜ r ≡ refusedModel self WrongRow ⌝ }
+        ensures means { λ r. ⌜ ((s : State) → sound s ≡ true → self ≡ engineOf s → r ≡ steppedOf (stepDecoded s WrongForm)) ⌝ }
+    {
+        self.refused(Verdict::WrongRow)
     }
 }

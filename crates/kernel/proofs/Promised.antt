@@ -4,14 +4,11 @@ use mathlib.Core.Path.{_≡_, refl, sym, ap, _∙_}
 use mathlib.Core.Logic.{_⊎_, inl, inr, _↔_}
 use mathlib.Core.Bool.{Bool, true, false, true≢false}
 use Rattle.laws.specs.Bools.{by-cases}
-use Rattle.calls.specs.declared.Answer.{Answer}
-use Rattle.calls.specs.declared.Call.{Call}
 use Rattle.calls.specs.declared.Decoded.{Decoded}
-use Rattle.calls.specs.declared.Decoded.the-variants.{Taken, WrongForm}
 use Rattle.calls.specs.Answers.{numberOf}
 use Rattle.rules.specs.State.{State}
 use Rattle.rules.specs.Sound.{sound}
-use Rattle.rules.specs.Step.{step, stepDecoded}
+use Rattle.rules.specs.Step.{stepDecoded}
 use Rattle.engine.specs.declared.Stepped as engine
 use Rattle.engine.specs.Stands as stands
 use Rattle.engine.specs.Stands.{engineOf}
@@ -35,20 +32,10 @@ module _ (x : Kernel) {b : Bool} (tested : (b ≡ true) ↔ SoundKernel x) where
   }
 
   -- the test passed: the engine's step
-  pub sound-steps : (call : Call) (y : engine.Stepped) (r : Stepped) → b ≡ true → ((s : State) → sound s ≡ true → x .engine ≡ engineOf s → y ≡ stands.steppedOf (step s call))
-      → r ≡ record { kernel = record { engine = y .engine }; answer = y .answer } → Steps x (Taken call) r
-  unfolding stepDecoded
-  sound-steps call y r e means q = record {
+  pub sound-steps : (row : Decoded) (y : engine.Stepped) (r : Stepped) → b ≡ true → ((s : State) → sound s ≡ true → x .engine ≡ engineOf s → y ≡ stands.steppedOf (stepDecoded s row))
+      → r ≡ record { kernel = record { engine = y .engine }; answer = y .answer } → Steps x row r
+  sound-steps row y r e means q = record {
     of-sound = λ s o d. q ∙ ap (λ (z : engine.Stepped). record { kernel = record { engine = z .engine }; answer = z .answer }) (means s o (ap (λ (z : Kernel). z .engine) d));
-    of-unsound = λ n. absurd (n (tested .0 e));
-  }
-
-  -- the test passed, and the row is of wrong form: 17, and nothing changes
-  pub wrong-steps : (y : Answer) (r : Stepped) → b ≡ true → ((s : State) → sound s ≡ true → x .engine ≡ engineOf s → y ≡ stepDecoded s WrongForm .answer)
-      → r ≡ record { kernel = x; answer = y } → Steps x WrongForm r
-  unfolding stepDecoded
-  wrong-steps y r e means q = record {
-    of-sound = λ s o d. q ∙ (λ i. record { kernel = d i; answer = means s o (ap (λ (z : Kernel). z .engine) d) i });
     of-unsound = λ n. absurd (n (tested .0 e));
   }
 

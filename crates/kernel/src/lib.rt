@@ -10,7 +10,6 @@ use calls::decode;
 use checks::sound;
 use describe::describe;
 use engine::Engine;
-use rows::part_row;
 use units::Micros;
 ghost use mathlib.Core.Path.{_≡_};
 ghost use mathlib.Core.Bool.{true};
@@ -80,7 +79,7 @@ impl Kernel {
             return self.refused(1);
         }
         let engine = self.engine;
-        let stepped = turns::step(engine, call);
+        let stepped = engine.step(call);
         let after = stepped.engine;
         let answer = stepped.answer;
         self.engine = after;
@@ -99,7 +98,10 @@ impl Kernel {
             return self.refused(17);
         }
         let engine = self.engine;
-        let answer = part_row(engine);
+        let stepped = engine.wrong_row();
+        let after = stepped.engine;
+        let answer = stepped.answer;
+        self.engine = after;
         Stepped {
             kernel: self,
             answer,

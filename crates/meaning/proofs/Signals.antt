@@ -17,7 +17,7 @@ use Rattle.parts.specs.Models as parts
 use Rattle.parts.specs.Models.{headModel, leaveModelIn}
 use Rattle.scheduler.specs.declared.Mutex as scheduler
 use Rattle.scheduler.specs.declared.Scheduler as scheduled
-use Rattle.scheduler.specs.Models.{Signalled}
+use Rattle.scheduler.specs.declared.Signalled.{Signalled}
 use Rattle.scheduler.specs.Models as models
 use Rattle.scheduler.specs.Models.{mutexOf, onConditionOf, ownModel, waitForModel, readyModel, wakeModel, leaveConditionModel, untieModel, signalToModel, signalModel, broadcastModel, withRan, runFirstModel, chooseNextModel}
 use Rattle.rules.specs.Queues.{First, nobody, somebody, emptySet, firstLeaves}

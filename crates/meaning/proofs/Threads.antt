@@ -14,7 +14,7 @@ use Rattle.queue.specs.Stands.{linksOf, queuesOf}
 use Rattle.parts.specs.declared.Thread as parts
 use Rattle.parts.specs.declared.Threads.{Threads}
 use Rattle.parts.specs.declared.Joined.{Joined}
-use Rattle.parts.specs.Models.{Ran}
+use Rattle.parts.specs.declared.Ran.{Ran}
 use Rattle.parts.specs.Models.{joinModel, joinFrontModel, partModel, headModel, rowOf, standModel, withReady, arriveModel, arriveInFrontModel, withLinks, waitModel, leaveModelIn, ran, runModel, runFirstModel, chooseNextModel}
 use Rattle.rules.specs.Queues.{QueueSet, First, nobody, somebody, toBack, toFront, firstLeaves}
 use Rattle.rules.specs.State.{Where, running, ready, forMutex, onCondition, waits, Rows, Sets, Scheduler, noThread, thread, priority, withThreads, stand, setAt, putSet, firstAt, arrive, arriveInFront, depart}

@@ -17,7 +17,7 @@ use Rattle.parts.specs.declared.Thread.{Thread}
 use Rattle.parts.specs.Models.{blank, rowOf, liftModel, headModel, leaveModelIn}
 use Rattle.scheduler.specs.declared.Mutex.{Mutex}
 use Rattle.scheduler.specs.declared.Scheduler.{Scheduler}
-use Rattle.scheduler.specs.Models.{Signalled}
+use Rattle.scheduler.specs.declared.Signalled.{Signalled}
 use Rattle.scheduler.specs.Models.{noSet, mutexOf, onConditionOf, withTie, highestIn, settleModel, ownModel, recountModel, waitForModel, acquireModel, wakeModel, leaveConditionModel, untieModel, signalToModel, signalModel}
 use Rattle.cells.specs.Cells.{setIn, schedulerIn}
 use Rattle.cells.specs.Changes.{setOf, tieOf, withThread}

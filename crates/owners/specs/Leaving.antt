@@ -2,7 +2,7 @@
 -- Assumes nothing.
 use Prim.Native.Nat.{ℕ}
 use mathlib.Core.List.{List}
-use Rattle.scheduler.specs.Models.{Signalled}
+use Rattle.scheduler.specs.declared.Signalled.{Signalled}
 use Rattle.cells.specs.Cells.{schedulerIn}
 
 -- both as one

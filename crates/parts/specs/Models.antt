@@ -13,12 +13,8 @@ use Rattle.parts.specs.declared.Joined.{Joined}
 use Rattle.parts.specs.declared.Head.{Head}
 use Rattle.parts.specs.declared.Thread.{Thread}
 use Rattle.parts.specs.declared.Threads.{Threads}
+use Rattle.parts.specs.declared.Ran.{Ran}
 use Rattle.parts.specs.declared.Waiting.{Waiting}
-
--- the threads, and the one that runs
-pub record Ran : Type 0 where
-  pub threads : Threads
-  pub running : ℕ
 
 -- the set with the queue of priority p put back, and the links
 abbrev pub joined : Queues → ℕ → Linked → Joined

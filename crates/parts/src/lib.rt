@@ -1,10 +1,11 @@
 // The parts of the kernel that threads stand in: a set of queues with the links, and the threads with their links and ready queues; and how a thread
-// becomes ready or waits, which boot and the building of a loaded state need. What the calls do to them stands in `moves` and `owners`, in place.
+// becomes ready, waits, leaves a set and runs. A function takes these values, copies out what it changes, stores it back and hands them on.
 // An id of a thread is taken modulo 32, and one of 32 or more joins no queue, so that every function is total; callers hand in ids below 32.
 use queue::Links;
 use queue::Queues;
 ghost use mathlib.Core.Path.{_≡_};
-ghost use Rattle.parts.specs.Models.{joinModel, standModel, arriveModel, waitModel};
+ghost use mathlib.Core.Bool.{Bool};
+ghost use Rattle.parts.specs.Models.{joinModel, joinFrontModel, partModel, headModel, standModel, liftModel, arriveModel, arriveInFrontModel, runFirstModel, chooseNextModel, waitModel, leaveModelIn};
 
 // Links, and one set of queues.
 pub struct Joined {
@@ -34,6 +35,12 @@ pub struct Threads {
     pub ready: Queues,
 }
 
+// The threads, and the one that runs.
+pub struct Ran {
+    pub threads: Threads,
+    pub running: u8,
+}
+
 // The threads, and the set of queues of one mutex or condition variable.
 pub struct Waiting {
     pub threads: Threads,
@@ -49,6 +56,40 @@ pub fn join(links: Links, set: Queues, p: u8, t: u8) -> Joined
     let after = linked.links;
     let set = set.with_level(p, linked.queue);
     Joined { links: after, set }
+}
+
+// Thread t arrives at the front of the queue of priority p.
+fn join_front(links: Links, set: Queues, p: u8, t: u8) -> Joined
+    ensures { λ r. ⌜ r ≡ joinFrontModel links set p t ⌝ }
+{
+    let queue = set.level(p);
+    let linked = links.front(queue, t);
+    let after = linked.links;
+    let set = set.with_level(p, linked.queue);
+    Joined { links: after, set }
+}
+
+// The first of the queue of priority p leaves.
+fn part(links: Links, set: Queues, p: u8) -> Joined
+    ensures { λ r. ⌜ r ≡ partModel links set p ⌝ }
+{
+    let queue = set.level(p);
+    let linked = links.leave(queue);
+    let after = linked.links;
+    let set = set.with_level(p, linked.queue);
+    Joined { links: after, set }
+}
+
+// The first of the highest non-empty queue.
+pub fn highest_first(set: Queues) -> Head
+    ensures { λ r. ⌜ r ≡ headModel set ⌝ }
+{
+    let priority = set.highest();
+    let queue = set.level(priority);
+    Head {
+        priority,
+        thread: queue.first,
+    }
 }
 
 impl Threads {
@@ -67,6 +108,21 @@ impl Threads {
         self
     }
 
+    // Thread t has another priority.
+    pub fn lift(mut self, t: u8, priority: u8) -> Threads
+        ensures { λ r. ⌜ r ≡ liftModel self t priority ⌝ }
+    {
+        let i = (t % 32) as usize;
+        let row = self.rows[i];
+        self.rows[i] = Thread {
+            base: row.base,
+            priority,
+            state: row.state,
+            object: row.object,
+        };
+        self
+    }
+
     // Thread t is ready, at the back of the queue of its priority.
     pub fn arrive(mut self, t: u8) -> Threads
         ensures { λ r. ⌜ r ≡ arriveModel self t ⌝ }
@@ -74,6 +130,20 @@ impl Threads {
         let i = (t % 32) as usize;
         let row = self.rows[i];
         let joined = join(self.links, self.ready, row.priority, t);
+        let links = joined.links;
+        let ready = joined.set;
+        self.links = links;
+        self.ready = ready;
+        self.stand(t, 1, 255)
+    }
+
+    // Thread t is ready, at the front of the queue of its priority.
+    fn arrive_in_front(mut self, t: u8) -> Threads
+        ensures { λ r. ⌜ r ≡ arriveInFrontModel self t ⌝ }
+    {
+        let i = (t % 32) as usize;
+        let row = self.rows[i];
+        let joined = join_front(self.links, self.ready, row.priority, t);
         let links = joined.links;
         let ready = joined.set;
         self.links = links;
@@ -95,6 +165,75 @@ impl Threads {
         Waiting {
             threads,
             set: after,
+        }
+    }
+
+    // The first of the queue of priority p leaves a set of queues.
+    pub fn leave(mut self, set: Queues, p: u8) -> Waiting
+        ensures { λ r. ⌜ r ≡ leaveModelIn self set p ⌝ }
+    {
+        let parted = part(self.links, set, p);
+        let links = parted.links;
+        let after = parted.set;
+        self.links = links;
+        Waiting {
+            threads: self,
+            set: after,
+        }
+    }
+
+    // The first of the highest ready queue runs; where none is ready, nothing changes.
+    pub fn run_first(mut self, running: u8) -> Ran
+        ensures { λ r. ⌜ r ≡ runFirstModel self running ⌝ }
+    {
+        let first = highest_first(self.ready);
+        if 16 <= first.priority {
+            return Ran {
+                threads: self,
+                running,
+            };
+        }
+        let parted = part(self.links, self.ready, first.priority);
+        let links = parted.links;
+        let ready = parted.set;
+        self.links = links;
+        self.ready = ready;
+        let threads = self.stand(first.thread, 2, 255);
+        Ran {
+            threads,
+            running: first.thread,
+        }
+    }
+
+    // Who runs after an accepted call: the rule of three.
+    pub fn choose_next(self, running: u8, tick: bool) -> Ran
+        ensures { λ r. ⌜ r ≡ chooseNextModel self running tick ⌝ }
+    {
+        let i = (running % 32) as usize;
+        let row = self.rows[i];
+        if 3 <= row.state {
+            return self.run_first(running);
+        }
+        let first = highest_first(self.ready);
+        if 16 <= first.priority {
+            return Ran {
+                threads: self,
+                running,
+            };
+        }
+        if row.priority < first.priority {
+            let behind = self.arrive_in_front(running);
+            return behind.run_first(running);
+        }
+        if tick {
+            if row.priority == first.priority {
+                let behind = self.arrive(running);
+                return behind.run_first(running);
+            }
+        }
+        Ran {
+            threads: self,
+            running,
         }
     }
 }

@@ -1,12 +1,17 @@
 -- One turn of the search from above, and of the walk along the links.
 -- Assumes nothing.
 use Prim.Native.Nat.{ℕ, zero, suc, _≤_, _<_}
-use mathlib.Core.Path.{_≡_, refl}
+use mathlib.Core.Path.{_≡_, refl, ap}
 use mathlib.Core.Bool.{Bool, true, false}
 use mathlib.Core.List.{List, [], _∷_}
-use lib.ListN.{getD}
+use native.Mathlib.Omega.{arith}
+use lib.ListN.{length, getD}
+use lib.Dec.{ltb}
 use borrow.Author.Tests.{lt-ltb, le-ltb}
-use Rattle.queue.specs.Models.{walk, highestBelow}
+use Rattle.laws.specs.Lists.{getD-any}
+use Rattle.queue.specs.Models.{walk, highestBelow, emptyQueue, levelModel, hasFirst}
+use Rattle.queue.specs.declared.Queue.{Queue}
+use Rattle.queue.specs.declared.Queues.{Queues}
 
 -- ---- the search
 
@@ -24,6 +29,11 @@ search-found holds none n p e h = rw e (rw h)
 pub search-passed : (holds : ℕ → Bool) (none n p : ℕ) → n ≡ suc p → holds p ≡ false → highestBelow holds none n ≡ highestBelow holds none p
 unfolding highestBelow
 search-passed holds none n p e h = rw e (rw h)
+
+-- the code's test of a queue is the definition's
+pub test-at : (s : Queues) (p : ℕ) (d : Queue) → length (s .levels) ≡ 16 → p < 16 → hasFirst s p ≡ ltb (getD (s .levels) p d .first) 32
+unfolding hasFirst levelModel
+test-at s p d e h = ap (λ (q : Queue). ltb (q .first) 32) (getD-any (s .levels) p emptyQueue d (omega arith))
 
 -- ---- the walk
 

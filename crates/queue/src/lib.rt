@@ -2,7 +2,7 @@
 // have one array of links. An operation takes the links and one queue and hands both back.
 // A thread's id or an end of 32 or more is no thread: nothing is stored there.
 ghost use mathlib.Core.Path.{_≡_};
-ghost use Rattle.queue.specs.Models.{emptyQueue, emptyLinks, emptyQueues, backModel, levelModel, withLevelModel};
+ghost use Rattle.queue.specs.Models.{emptyQueue, emptyLinks, emptyQueues, backModel, frontModel, leaveModel, levelModel, withLevelModel, highestModel};
 
 // The first and the last thread of a queue, 255 and 255 where it is empty.
 pub struct Queue {
@@ -64,6 +64,45 @@ impl Links {
         let queue = Queue { first: t, last: t };
         Linked { links: self, queue }
     }
+
+    // Thread t arrives at the front.
+    pub fn front(mut self, queue: Queue, t: u8) -> Linked
+        ensures { λ r. ⌜ r ≡ frontModel self queue t ⌝ }
+    {
+        if 32 <= t {
+            return Linked { links: self, queue };
+        }
+        let first = queue.first;
+        let last = queue.last;
+        let i = t as usize;
+        self.next[i] = first;
+        if first < 32 {
+            let queue = Queue { first: t, last };
+            return Linked { links: self, queue };
+        }
+        let queue = Queue { first: t, last: t };
+        Linked { links: self, queue }
+    }
+
+    // The first thread leaves; an empty queue is left as it is.
+    pub fn leave(mut self, queue: Queue) -> Linked
+        ensures { λ r. ⌜ r ≡ leaveModel self queue ⌝ }
+    {
+        let first = queue.first;
+        let last = queue.last;
+        if 32 <= first {
+            return Linked { links: self, queue };
+        }
+        let i = first as usize;
+        let after = self.next[i];
+        self.next[i] = 255;
+        if after < 32 {
+            let queue = Queue { first: after, last };
+            return Linked { links: self, queue };
+        }
+        let queue = Queue::empty();
+        Linked { links: self, queue }
+    }
 }
 
 impl Queues {
@@ -95,5 +134,22 @@ impl Queues {
             self.levels[i] = q;
         }
         self
+    }
+
+    // The highest priority whose queue is not empty, 16 for none.
+    pub fn highest(self) -> u8
+        ensures { λ r. ⌜ r ≡ highestModel self ⌝ }
+    {
+        let mut passed: u8 = 0;
+        while passed < 16 {
+            let p = 15 - passed;
+            let i = p as usize;
+            let q = self.levels[i];
+            if q.first < 32 {
+                return p;
+            }
+            passed += 1;
+        }
+        16
     }
 }

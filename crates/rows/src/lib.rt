@@ -4,7 +4,6 @@ use calls::Decoded;
 use calls::decode;
 use engine::Engine;
 use engine::Stepped;
-use turns::step;
 ghost use mathlib.Core.Path.{_≡_};
 ghost use mathlib.Core.Bool.{true};
 ghost use Rattle.rules.specs.State.{State};
@@ -38,7 +37,7 @@ pub fn step_row(engine: Engine, row: [u8; 8]) -> Stepped
         let answer = part_row(engine);
         return Stepped { engine, answer };
     };
-    step(engine, call)
+    engine.step(call)
 }
 
 // The 8 bytes from a place on; eight zeros, a row of wrong form, where there are fewer.

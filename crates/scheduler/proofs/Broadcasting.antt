@@ -6,7 +6,7 @@ use native.Mathlib.Numerals.{add-one}
 use native.Mathlib.Omega.{arith}
 use borrow.Author.Tests.{eq-eqb, ne-eqb}
 use Rattle.scheduler.specs.declared.Scheduler.{Scheduler}
-use Rattle.scheduler.specs.Models.{Signalled}
+use Rattle.scheduler.specs.declared.Signalled.{Signalled}
 use Rattle.scheduler.specs.Models.{signalModel, broadcastModel}
 
 -- what a broadcast comes to from where n have left

@@ -11,16 +11,12 @@ use Rattle.parts.specs.declared.Thread.{Thread}
 use Rattle.parts.specs.declared.Threads.{Threads}
 use Rattle.parts.specs.declared.Head.{Head}
 use Rattle.parts.specs.declared.Waiting.{Waiting}
-use Rattle.parts.specs.Models.{Ran}
+use Rattle.parts.specs.declared.Ran.{Ran}
 use Rattle.parts.specs.Models as parts
 use Rattle.parts.specs.Models.{headModel, rowOf, withRow, liftModel, arriveModel, leaveModelIn}
 use Rattle.scheduler.specs.declared.Mutex.{Mutex}
 use Rattle.scheduler.specs.declared.Scheduler.{Scheduler}
-
--- the scheduler after signals, and how many threads left the condition variable
-pub record Signalled : Type 0 where
-  pub scheduler : Scheduler
-  pub left : ℕ
+use Rattle.scheduler.specs.declared.Signalled.{Signalled}
 
 -- ---- rows and sets
 

@@ -15,7 +15,8 @@ use Rattle.engine.specs.declared.Stepped.{Stepped}
 use Rattle.engine.specs.Stands.{engineOf}
 use Rattle.turns.specs.Turning.{decodedModel}
 use Rattle.rows.specs.Rows.{rowModel, rowAt}
-use Rattle.tally.specs.Sums.{Tally, weight, tallyRow, firstRows, overRows, repeated, sumOf}
+use Rattle.tally.specs.declared.Tally.{Tally}
+use Rattle.tally.specs.Sums.{weight, tallyRow, firstRows, overRows, repeated, sumOf}
 
 -- a row taken apart and done, and the sum with its answer
 pub turned : (x : Engine) (sum more : ℕ) (d : Decoded) (r row : List ℕ) (y : Stepped) → y ≡ decodedModel x d → d ≡ decoded r → r ≡ row → more ≡ (sum + weight (y .answer)) % 2 ^ 64

@@ -5,19 +5,14 @@ use mathlib.Core.List.{List}
 use lib.ListN.{length, take, drop}
 use Rattle.calls.specs.declared.Answer.{Answer}
 use Rattle.rules.specs.State.{boot}
-use Rattle.engine.specs.declared.Engine.{Engine}
 use Rattle.engine.specs.Stands.{engineOf}
 use Rattle.plain.specs.declared.Clock.{Clock}
 use Rattle.plain.specs.declared.Counts.{Counts}
 use Rattle.plain.specs.Standing.{engineIn}
 use Rattle.rows.specs.Rows.{rowModel}
+use Rattle.tally.specs.declared.Tally.{Tally}
 
--- an engine, and the sum of the answers that it gave, modulo 2 to the power of 64
-pub record Tally : Type 0 where
-  pub engine : Engine
-  pub sum : ℕ
-
--- the same with the scheduler in an array
+-- an engine with its scheduler in an array, and a sum
 abbrev pub tallyIn : List ℕ → Clock → Counts → ℕ → Tally
 tallyIn k t n sum = record { engine = engineIn k t n; sum = sum }
 

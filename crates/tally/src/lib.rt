@@ -1,10 +1,11 @@
-// For measuring: rows one after the other on a kernel whose scheduler is changed in place, and the sum of their answers.
+// For measuring: rows one after the other, and the sum of their answers; on an engine whose scheduler is changed in place, and on one by value.
 use calls::Answer;
 use calls::decode;
 use engine::Engine;
 use plain::Clock;
 use plain::Counts;
 use rows::row_at;
+use rows::step_row;
 use std::num::wrapping_add_u64;
 use turns::cells_of;
 use turns::clock_of;
@@ -14,9 +15,15 @@ use turns::plain_row;
 use turns::timed_row;
 ghost use mathlib.Core.Path.{_≡_};
 ghost use Prim.Native.Nat.{_+_, _%_, _^_};
-ghost use Rattle.tally.specs.Sums.{weight, tallyIn, overRows, repeated, sumOf};
+ghost use Rattle.tally.specs.Sums.{weight, tallyIn, tallyRow, overRows, repeated, sumOf};
 
-// The clock, the counts, and the sum of the answers so far, modulo 2 to the power of 64.
+// An engine, and the sum of the answers that it gave, modulo 2 to the power of 64.
+struct Tally {
+    engine: Engine,
+    sum: u64,
+}
+
+// The same with the scheduler in an array: the clock, the counts, and the sum.
 struct Tallied {
     clock: Clock,
     counts: Counts,
@@ -106,5 +113,63 @@ pub extern "C" fn run_rows(setup: &[u8], rows: &[u8], repeats: u64) -> u64
     let later = ready.clock;
     let more = ready.counts;
     let ended = tally_repeated(&mut cells, later, more, rows, repeats);
+    ended.sum
+}
+
+// One row more, by value.
+fn tally_row_by_value(tally: Tally, row: [u8; 8]) -> Tally
+    ensures { λ r. ⌜ r ≡ tallyRow tally row ⌝ }
+{
+    let before = tally.engine;
+    let stepped = step_row(before, row);
+    let engine = stepped.engine;
+    let sum = add(tally.sum, stepped.answer);
+    Tally { engine, sum }
+}
+
+// All whole rows, in order, by value.
+fn tally_rows_by_value(tally: Tally, rows: &[u8]) -> Tally
+    ensures { λ r. ⌜ r ≡ overRows tally (now (rows .entry)) ⌝ }
+{
+    let count = rows.len() / 8;
+    let mut reached = tally;
+    let mut i: usize = 0;
+    while i < count {
+        let row = row_at(rows, i * 8);
+        let next = tally_row_by_value(reached, row);
+        reached = next;
+        i += 1;
+    }
+    reached
+}
+
+// All whole rows, in order, so many times, by value.
+fn tally_repeated_by_value(tally: Tally, rows: &[u8], repeats: u64) -> Tally
+    ensures { λ r. ⌜ r ≡ repeated repeats tally (now (rows .entry)) ⌝ }
+{
+    let mut reached = tally;
+    let mut left = repeats;
+    while 0 < left {
+        let next = tally_rows_by_value(reached, rows);
+        reached = next;
+        left -= 1;
+    }
+    reached
+}
+
+// The same sum as `run_rows`, by value.
+#[no_mangle]
+pub extern "C" fn run_rows_by_value(setup: &[u8], rows: &[u8], repeats: u64) -> u64
+    ensures { λ r. ⌜ r ≡ sumOf (now (setup .entry)) (now (rows .entry)) repeats ⌝ }
+{
+    let engine = Engine::boot();
+    let first = Tally { engine, sum: 0 };
+    let ready = tally_rows_by_value(first, setup);
+    let after = ready.engine;
+    let begun = Tally {
+        engine: after,
+        sum: 0,
+    };
+    let ended = tally_repeated_by_value(begun, rows, repeats);
     ended.sum
 }

@@ -16,7 +16,7 @@ use Rattle.scheduler.specs.Models.{signalModel}
 use Rattle.cells.specs.Cells.{schedulerIn}
 use Rattle.owners.specs.Leaving.{signalledIn}
 use Rattle.engine.specs.declared.Engine.{Engine}
-use Rattle.engine.specs.Models.{Effect}
+use Rattle.engine.specs.declared.Effect.{Effect}
 use Rattle.engine.specs.declared.Timer.{Timer}
 use Rattle.engine.specs.Models.{noTimer, stoppedRow, serveModel}
 use Rattle.engine.proofs.Dues.{few-among}

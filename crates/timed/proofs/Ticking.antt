@@ -12,7 +12,7 @@ use Rattle.calls.specs.declared.Answer.{Answer}
 use Rattle.calls.specs.declared.Verdict.the-variants.{Stopped}
 use Rattle.calls.specs.Answers.{numberOf}
 use Rattle.engine.specs.declared.Engine.{Engine}
-use Rattle.engine.specs.Models.{Effect}
+use Rattle.engine.specs.declared.Effect.{Effect}
 use Rattle.engine.specs.declared.Stepped.{Stepped}
 use Rattle.engine.specs.Models.{refusedModel, answeredModel, serveAllModel, turned, tickModel}
 use Rattle.engine.proofs.Serving.{serve-none}

@@ -2,7 +2,7 @@
 -- Assumes nothing.
 use Prim.Native.Nat.{ℕ}
 use mathlib.Core.List.{List}
-use Rattle.engine.specs.Models.{Effect}
+use Rattle.engine.specs.declared.Effect.{Effect}
 use Rattle.plain.specs.declared.Clock.{Clock}
 use Rattle.plain.specs.declared.Counts.{Counts}
 use Rattle.plain.specs.Standing.{engineIn}

@@ -5,7 +5,7 @@ use mathlib.Core.Path.{_≡_, ap}
 use mathlib.Core.List.{List}
 use lib.ListN.{length}
 use Rattle.calls.specs.declared.Answer.{Answer}
-use Rattle.scheduler.specs.Models.{Signalled}
+use Rattle.scheduler.specs.declared.Signalled.{Signalled}
 use Rattle.packing.proofs.Once.{bytes-once}
 use Rattle.owners.specs.Leaving.{signalledIn}
 use Rattle.engine.specs.declared.Stepped.{Stepped}

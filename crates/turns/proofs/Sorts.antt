@@ -1,10 +1,9 @@
--- A call or row done as its sort has it is the call or row done, also on an engine that is taken apart for it and put together again.
+-- A call or row done as its sort has it is the call or row done; and an engine that is taken apart is the same.
 -- Assumes nothing.
 use Prim.Native.Nat.{ℕ}
-use mathlib.Core.Path.{_≡_, refl, sym, ap, _∙_}
+use mathlib.Core.Path.{_≡_, refl, sym}
 use mathlib.Core.Bool.{true, false, true≢false}
 use mathlib.Core.List.{List}
-use Rattle.calls.specs.declared.Answer.{Answer}
 use Rattle.calls.specs.declared.Call.{Call}
 use Rattle.calls.specs.declared.Call.the-variants.{Start, CreateThread, CreateMutex, CreateCondition, CreateTimer, Acquire, Release, Wait, Signal, Broadcast, StartTimer, StopTimer, Tick}
 use Rattle.calls.specs.declared.Decoded.{Decoded}
@@ -14,7 +13,7 @@ use Rattle.engine.specs.declared.Engine.{Engine}
 use Rattle.engine.specs.Models.{refusedModel, stepModel}
 use Rattle.plain.specs.declared.Clock.{Clock}
 use Rattle.plain.specs.declared.Counts.{Counts}
-use Rattle.plain.specs.Standing.{engineIn, steppedIn, plainModel}
+use Rattle.plain.specs.Standing.{engineIn, plainModel}
 use Rattle.turns.specs.Turning.{decodedModel, onTimers, isTimed, plainRow, timedModel, timedRow, clockOf, countsOf}
 
 -- a call that is not on timers
@@ -63,9 +62,7 @@ unfolding isTimed timedRow decodedModel
 timed-turns x WrongForm e = absurd (true≢false (sym e))
 timed-turns x (Taken call) e = timed-steps x call e
 
--- ---- an engine taken apart, changed, and put together
-
--- taken apart it is the same
+-- an engine taken apart is the same
 pub apart : (x : Engine) (k : List ℕ) (t : Clock) (n : Counts) → schedulerIn k ≡ x .scheduler → t ≡ clockOf x → n ≡ countsOf x → engineIn k t n ≡ x
 apart x k t n cells clock counts = λ i. record {
   scheduler = cells i;
@@ -78,13 +75,3 @@ apart x k t n cells clock counts = λ i. record {
   clocks = counts i .clocks;
   count = clock i .count;
 }
-
-module _ (x : Engine) (call : Call) (k z : List ℕ) (t : Clock) (n : Counts) (a : Answer) (e : Engine)
-    (cells : schedulerIn k ≡ x .scheduler) (clock : t ≡ clockOf x) (counts : n ≡ countsOf x) where
-  -- a call on timers
-  pub timed-done : (u : Clock) → onTimers call ≡ true → steppedIn z u n a ≡ timedModel (engineIn k t n) call → e ≡ engineIn z u n → record { engine = e; answer = a } ≡ stepModel x call
-  timed-done u h done put = ap (λ y. record { engine = y; answer = a }) put ∙ done ∙ ap (λ y. timedModel y call) (apart x k t n cells clock counts) ∙ timed-steps x call h
-
-  -- another call
-  pub plain-done : (m : Counts) → onTimers call ≡ false → steppedIn z t m a ≡ plainModel (engineIn k t n) call → e ≡ engineIn z t m → record { engine = e; answer = a } ≡ stepModel x call
-  plain-done m h done put = ap (λ y. record { engine = y; answer = a }) put ∙ done ∙ ap (λ y. plainModel y call) (apart x k t n cells clock counts) ∙ plain-steps x call h

@@ -3,7 +3,6 @@ use calls::Call;
 use calls::Decoded;
 use calls::Verdict;
 use engine::Engine;
-use engine::Stepped;
 use packing::packed;
 use packing::unpacked;
 use plain::Clock;
@@ -16,14 +15,9 @@ use timed::start_timer;
 use timed::stop_timer;
 use timed::tick;
 ghost use mathlib.Core.Path.{_≡_};
-ghost use mathlib.Core.Bool.{true};
 ghost use Rattle.cells.specs.Cells.{schedulerIn};
 ghost use Rattle.calls.specs.declared.Verdict.the-variants.{WrongRow};
-ghost use Rattle.rules.specs.State.{State};
-ghost use Rattle.rules.specs.Sound.{sound};
-ghost use Rattle.rules.specs.Step.{step};
-ghost use Rattle.engine.specs.Models.{refusedModel, stepModel};
-ghost use Rattle.engine.specs.Stands.{engineOf, steppedOf};
+ghost use Rattle.engine.specs.Models.{refusedModel};
 ghost use Rattle.plain.specs.declared.Clock.{Clock};
 ghost use Rattle.plain.specs.declared.Counts.{Counts};
 ghost use Rattle.plain.specs.Standing.{engineIn, steppedIn};
@@ -162,32 +156,4 @@ pub fn timed_row(cells: &mut [u8; 1281], clock: Clock, counts: Counts, decoded: 
         return not_timed(cells, clock);
     };
     timed_call(cells, clock, counts, call)
-}
-
-// A call of an engine that is handed in and handed back: for a sound state the engine that describes document 01's next state, with its answer.
-pub fn step(engine: Engine, call: Call) -> Stepped
-    ensures always { λ r. ⌜ r ≡ stepModel engine call ⌝ }
-    ensures means { λ r. ⌜ ((s : State) → sound s ≡ true → engine ≡ engineOf s → r ≡ steppedOf (step s call)) ⌝ }
-{
-    let mut cells = cells_of(engine);
-    let clock = clock_of(engine);
-    let counts = counts_of(engine);
-    if on_timers(call) {
-        let done = timed_call(&mut cells, clock, counts, call);
-        let later = done.clock;
-        let answer = done.answer;
-        let after = engine_of(&cells, later, counts);
-        return Stepped {
-            engine: after,
-            answer,
-        };
-    }
-    let done = plain_call(&mut cells, counts, call);
-    let later = done.counts;
-    let answer = done.answer;
-    let after = engine_of(&cells, clock, later);
-    Stepped {
-        engine: after,
-        answer,
-    }
 }

@@ -6,7 +6,7 @@ use units::Length;
 use units::Micros;
 use units::ticks_of;
 ghost use mathlib.Core.Path.{_≡_};
-ghost use Rattle.verdicts.specs.Models.{createdVerdict, roomVerdict, startVerdict, acquireVerdict, releaseVerdict, heldVerdict, idsVerdict, firstOf, idVerdict, delayVerdict, stopVerdict, ownedOne};
+ghost use Rattle.verdicts.specs.Models.{createdVerdict, roomVerdict, startVerdict, acquireVerdict, releaseVerdict, heldVerdict, idsVerdict, firstOf, idVerdict, delayVerdict, stopVerdict, ownedOne, ownedIn};
 
 // Whether a thread or a mutex can be created.
 pub fn created_verdict(value: u8, count: u8, limit: u8) -> Verdict
@@ -192,4 +192,18 @@ pub fn owned_one(row: Mutex, t: u8) -> u8
         return 1;
     }
     0
+}
+
+// How many mutexes thread t owns.
+pub fn owned_by(mutexes: [Mutex; 16], t: u8) -> u8
+    ensures { λ r. ⌜ r ≡ ownedIn mutexes t ⌝ }
+{
+    let mut owned: u8 = 0;
+    let mut i: usize = 0;
+    while i < 16 {
+        let row = mutexes[i];
+        owned += owned_one(row, t);
+        i += 1;
+    }
+    owned
 }

@@ -3,7 +3,7 @@ use Prim.Native.Nat.{_≤_, _+_, _-_}
 use mathlib.Core.Path.{_≡_, refl, sym, ap, _∙_}
 use native.Mathlib.Omega.{arith}
 use borrow.Author.Needs.{needs}
-use Rattle.scheduler.specs.Models.{Signalled}
+use Rattle.scheduler.specs.declared.Signalled.{Signalled}
 use Rattle.scheduler.proofs.Broadcasting.{onFrom, broadcast-on, broadcast-none, broadcast-all}
 use Rattle.cells.specs.Cells.{schedulerIn}
 use Rattle.owners.proofs.Calls.{signal-quiet}

@@ -1,7 +1,7 @@
 -- `broadcast` meets its contract: by what each call promises. Assumes nothing.
 use borrow.Author.Needs.{needs}
 use mathlib.Core.Bool.{false}
-use Rattle.scheduler.specs.Models.{Signalled}
+use Rattle.scheduler.specs.declared.Signalled.{Signalled}
 use mathlib.Core.Path.{ap, _∙_}
 use Rattle.engine.specs.Models.{withScheduler, broadcastModel, answeredModel}
 use Rattle.plain.specs.Standing.{engineIn}

@@ -2,6 +2,7 @@
 use mathlib.Core.Path.{refl}
 use Rattle.laws.specs.Bools.{denied, not-not}
 use Rattle.calls.specs.declared.Decoded.the-variants.{Taken}
+use Rattle.rules.specs.Step.{stepDecoded}
 use Rattle.kernel.proofs.Promised.{unsound-steps, sound-steps}
 use borrow.Author.Needs.{needs}
 use Rattle.kernel.proofs.Kernel.step.Statement.{statement}
@@ -20,9 +21,12 @@ step-requires : tie.Need-step-requires
 step-requires c κs = search needs
 
 returns-2 : tie.Need-returns-2
+unfolding stepDecoded
 returns-2 c =
-    let begun = c .before .before .before .before .before in
-    sound-steps (begun .before .args .self) (begun .is-sound .ensures) (begun .before .args .call) (c .before .before .step .result) _ (not-not _ (c .before .before .before .before .if1 .left)) (c .before .before .step .ensures .1) refl
+    let stepped = c .before .before in
+    let tested = stepped .before .before in
+    let begun = tested .before in
+    sound-steps (begun .before .args .self) (begun .is-sound .ensures) (Taken (begun .before .args .call)) (stepped .step .result) _ (not-not _ (tested .if1 .left)) (stepped .step .ensures .1) refl
 
 pub step-spec : {M : Type 1} → statement M
 step-spec =

@@ -1,8 +1,8 @@
--- `Kernel::wrong_row` meets its contract: 17, with the running thread of a sound kernel. Assumes nothing.
+-- `Kernel::wrong_row` meets its contract: refused, or the engine's 17. Assumes nothing.
 use mathlib.Core.Path.{refl}
 use Rattle.laws.specs.Bools.{denied, not-not}
 use Rattle.calls.specs.declared.Decoded.the-variants.{WrongForm}
-use Rattle.kernel.proofs.Promised.{unsound-steps, wrong-steps}
+use Rattle.kernel.proofs.Promised.{unsound-steps, sound-steps}
 use borrow.Author.Needs.{needs}
 use Rattle.kernel.proofs.Kernel.wrong_row.Statement.{statement}
 use Rattle.kernel.proofs.Kernel.wrong_row.Tie as tie
@@ -16,12 +16,16 @@ refused-requires c κs = search needs
 returns : tie.Need-returns
 returns c = unsound-steps (c .before .before .before .args .self) (c .before .before .is-sound .ensures) WrongForm _ (denied _ (c .before .if1 .taken)) (c .refused .ensures)
 
-part-row-requires : tie.Need-part-row-requires
-part-row-requires c κs = search needs
+wrong-row-requires : tie.Need-wrong-row-requires
+wrong-row-requires c κs = search needs
 
 returns-2 : tie.Need-returns-2
-returns-2 c = wrong-steps (c .before .before .before .before .args .self) (c .before .before .before .is-sound .ensures) (c .part-row .result) _ (not-not _ (c .before .before .if1 .left)) (c .part-row .ensures .1) refl
+returns-2 c =
+    let stepped = c .before .before in
+    let tested = stepped .before .before in
+    let begun = tested .before in
+    sound-steps (begun .before .args .self) (begun .is-sound .ensures) WrongForm (stepped .wrong-row .result) _ (not-not _ (tested .if1 .left)) (stepped .wrong-row .ensures .1) refl
 
 pub wrong-row-spec : {M : Type 1} → statement M
 wrong-row-spec =
-    tie.close (tie.spec is-sound-requires refused-requires returns part-row-requires returns-2)
+    tie.close (tie.spec is-sound-requires refused-requires returns wrong-row-requires returns-2)

@@ -1,0 +1,41 @@
+-- `Scheduler::settle` meets its contract: by its test, and each call by its own. Assumes nothing.
+use borrow.Author.Tests.{le-ltb, lt-ltb}
+use Rattle.scheduler.specs.Models.{settleModel}
+use borrow.Author.Needs.{needs}
+use Rattle.scheduler.proofs.Scheduler.settle.Statement.{statement}
+use Rattle.scheduler.proofs.Scheduler.settle.Tie as tie
+
+returns : tie.Need-returns
+unfolding settleModel
+returns c = rw (le-ltb _ _ (c .if1 .taken))
+
+mul-row : tie.Need-mul-row
+mul-row c = search needs
+
+element-copy-out-row : tie.Need-element-copy-out-row
+element-copy-out-row c = search needs
+
+highest-ceiling-requires : tie.Need-highest-ceiling-requires
+highest-ceiling-requires c κs = search needs
+
+larger-requires : tie.Need-larger-requires
+larger-requires c κs = search needs
+
+lift-requires : tie.Need-lift-requires
+lift-requires c κs = search needs
+
+returns-2 : tie.Need-returns-2
+unfolding settleModel
+returns-2 c = rw (lt-ltb _ _ (c .before .before .before .before .before .before .if1 .left), c .lift .ensures, c .before .larger .ensures, c .before .before .highest-ceiling .ensures)
+
+pub settle-spec : {M : Type 1} → statement M
+settle-spec =
+    tie.close
+    (tie.spec
+    returns
+    mul-row
+    element-copy-out-row
+    highest-ceiling-requires
+    larger-requires
+    lift-requires
+    returns-2)
