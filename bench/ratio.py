@@ -1,4 +1,5 @@
-"""The proved kernel against plain C on the stated mixes: nanoseconds per call and their ratio, both as x86-64 programs in one run.
+"""The proved kernel against plain C on the stated mixes: nanoseconds per call and their ratio, for the engine whose scheduler is changed in place and for the
+one by value, all as x86-64 programs in one run.
 Then the run program against one of plain C on files of the same mixes: rows a second, reading and writing included.
 
 python3 bench/ratio.py [ROUNDS]. Each mix is measured ROUNDS times on each side, in turn, and the best of each side counts.
@@ -11,6 +12,7 @@ import tempfile
 import time
 
 HERE = pathlib.Path(__file__).resolve().parent
+SIDES = ("measure", "measure-in-place", "measure-by-value")
 MIXES = ("rotate", "timers", "acquire", "pingpong", "broadcast")
 CALLS = 400_000
 
@@ -32,19 +34,20 @@ def measured(command: list[str], mix: pathlib.Path, repeats: int) -> tuple[float
     return float(found.group(1)), found.group(2)
 
 
-def compare(plain: list[str], proved: list[str], mix: pathlib.Path, rounds: int) -> str:
-    """One line of the table: the best of each side, in turn; the checksums of both sides agree."""
+def compare(sides: list[list[str]], mix: pathlib.Path, rounds: int) -> str:
+    """One line of the table: the best of each side, in turn, plain C first; the checksums of all sides agree."""
     repeats = max(1, CALLS * 8 // pathlib.Path(f"{mix}.loop.bin").stat().st_size)
-    best = [float("inf"), float("inf")]
+    best = [float("inf")] * len(sides)
     for _ in range(rounds):
-        sums = []
-        for side, command in enumerate((plain, proved)):
+        sums = set()
+        for side, command in enumerate(sides):
             took, checksum = measured(command, mix, repeats)
             best[side] = min(best[side], took)
-            sums.append(checksum)
-        if sums[0] != sums[1]:
-            sys.exit(f"ratio: {mix.name}: the two kernels answer differently")
-    return f"{mix.name:<10} {best[0]:>10.1f} {best[1]:>10.1f} {best[1] / best[0]:>8.1f}"
+            sums.add(checksum)
+        if len(sums) != 1:
+            sys.exit(f"ratio: {mix.name}: the kernels answer differently")
+    proved = "".join(f" {took:>13.1f} {took / best[0]:>8.1f}" for took in best[1:])
+    return f"{mix.name:<10} {best[0]:>10.1f}{proved}"
 
 
 def timed(command: list[str], calls: pathlib.Path, out: pathlib.Path) -> float:
@@ -83,10 +86,10 @@ def main() -> None:
         library = HERE.parent / "target" / "staticlib" / "libtally.a"
         start = run([str(HERE / "build"), room, str(library)]).splitlines()[-1].split(f"{room}/x86-64/")[0].split()
         run(["python3", str(HERE / "mixes.py"), "--write", f"{room}/mixes"])
-        print(f"{'mix':<10} {'C, ns':>10} {'kernel, ns':>10} {'ratio':>8}")
+        print(f"{'mix':<10} {'C, ns':>10} {'in place, ns':>13} {'ratio':>8} {'by value, ns':>13} {'ratio':>8}")
         for name in MIXES:
-            sides = [start + [f"{room}/x86-64/{program}"] for program in ("measure", "measure-proved")]
-            print(compare(sides[0], sides[1], pathlib.Path(room) / "mixes" / name, rounds), flush=True)
+            sides = [start + [f"{room}/x86-64/{program}"] for program in SIDES]
+            print(compare(sides, pathlib.Path(room) / "mixes" / name, rounds), flush=True)
         print(f"\n{'run':<10} {'C, rows/s':>12} {'run, rows/s':>12} {'ratio':>8}")
         for name in MIXES:
             programs = [start + [f"{room}/x86-64/run"], start + [str(HERE.parent / "target" / "bin" / "run")]]
