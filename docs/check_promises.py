@@ -16,6 +16,7 @@ from pathlib import Path
 from typing import Dict, Iterator, List, Tuple
 
 from edits import TOP, Wrong, wrongs
+from shapes import Function, one_result
 
 PAGE = TOP / "docs" / "PROMISES.md"
 HEADING = "| Function | Promise | One result by | Rules out |"
@@ -23,13 +24,6 @@ EXCEPTIONS = {"reading::open": "`form`; the page is promised for right form alon
 OUTSIDE = ("files", "stored")
 OPEN = "open: it speaks to the system, which decides"
 WRONGS: List[Wrong] = list(wrongs())
-# An array after a call, or made by it, as what it stands for, and the theorem that one array does so.
-IN_PLACE = {
-    "steppedIn (now (cells .exit))": "`stepped-once`",
-    "signalledIn (now (cells .exit))": "`signalled-once`",
-    "schedulerIn (now (cells .exit))": "`bytes-once`",
-    "schedulerIn r ≡": "`bytes-once`",
-}
 
 
 def crates() -> List[str]:
@@ -88,41 +82,52 @@ def check_names(text: str) -> List[Tuple[str, bool]]:
     return results
 
 
-def functions_of(crate: str) -> Iterator[Tuple[str, str]]:
-    """Each public function of a crate with the text of its promise."""
+def fields_of_structs() -> Dict[str, List[str]]:
+    """The fields of each struct of the libraries, by its name; a tuple's are counted from 0."""
+    fields: Dict[str, List[str]] = {}
+    for crate in crates():
+        source = texts(crate, "src", ".rt")
+        for name, body in re.findall(r"^(?:pub )?struct (\w+) \{\n(.*?)^\}", source, re.M | re.S):
+            fields[name] = re.findall(r"^ {4}(?:pub )?(\w+):", body, re.M)
+        for name, body in re.findall(r"^(?:pub )?struct (\w+)\((.*?)\);", source, re.M):
+            fields[name] = [str(at) for at in range(len(body.split(",")))]
+    return fields
+
+
+def lent_in(parameters: str) -> Tuple[str, ...]:
+    """The parameters that a function is lent to change."""
+    return tuple(re.findall(r"(\w+): &(?:'\w+ )?mut ", parameters))
+
+
+def functions_of(crate: str) -> Iterator[Function]:
+    """Each public function of a crate."""
     source = texts(crate, "src", ".rt")
     kind = ""
     for part in re.finditer(r"^impl (\w+)|^( *)pub (?:extern \"C\" )?fn (\w+)\b(.*?)(?: \{\n|\n\2\{)", source, re.M | re.S):
         if part.group(1):
             kind = part.group(1)
             continue
+        head = re.split(r"\s+ensures\b", part.group(4))[0]
         name = "%s::%s" % (kind, part.group(3)) if part.group(2) else part.group(3)
         promises = re.findall(r"ensures[^{]*\{ λ [\w_]+\. (?:do )?⌜ (.*?) ⌝ \}", part.group(4), re.S)
-        yield "%s::%s" % (crate, name), "; ".join(" ".join(promise.split()) for promise in promises)
+        returns = head.split("->")[1].strip() if "->" in head else ""
+        returns = kind if returns == "Self" else returns
+        yield Function("%s::%s" % (crate, name), returns, lent_in(head), tuple(" ".join(promise.split()) for promise in promises))
 
 
-def one_result(name: str, promise: str) -> str:
-    """By what any two results that a promise allows are equal."""
-    if name in EXCEPTIONS:
-        return EXCEPTIONS[name]
-    if name.split("::")[0] in OUTSIDE and "≡" not in promise:
+def result_by(function: Function, fields: Dict[str, List[str]]) -> str:
+    """By what any two results that a promise allows are equal, or why it may leave one open; nothing where it may not."""
+    if function.name in EXCEPTIONS:
+        return EXCEPTIONS[function.name]
+    if function.name.split("::")[0] in OUTSIDE and not one_result(function, fields):
         return OPEN
-    for form, theorem in IN_PLACE.items():
-        if form in promise:
-            return theorem
-    if "Saves " in promise:
-        return "`saves-once`"
-    if "Steps " in promise:
-        return "`steps-once`"
-    if "↔" in promise:
-        return "`exactly-once`"
-    return "`equation-once`" if "≡" in promise else ""
+    return one_result(function, fields)
 
 
-def ruled_out(name: str, promise: str) -> str:
+def ruled_out(function: Function, by: str) -> str:
     """The wrong programs of a function, of which there are to be two; where the system decides the result there is no wrong one."""
-    found = ["`%s`" % wrong.name for wrong in WRONGS if "%s::%s" % (wrong.crate, wrong.function) == name]
-    if not found and one_result(name, promise) == OPEN:
+    found = ["`%s`" % wrong.name for wrong in WRONGS if "%s::%s" % (wrong.crate, wrong.function) == function.name]
+    if not found and by == OPEN:
         return "none"
     return ", ".join(found) if len(found) >= 2 else ""
 
@@ -130,12 +135,14 @@ def ruled_out(name: str, promise: str) -> str:
 def table() -> List[str]:
     """The table of public functions as the tree has it."""
     lines = [HEADING, "|---|---|---|---|"]
+    fields = fields_of_structs()
     for crate in crates():
         if (TOP / "crates" / crate / "src" / "lib.rt").is_file():
-            for name, promise in functions_of(crate):
-                shown = promise.replace("|", "\\|")
+            for function in functions_of(crate):
+                shown = "; ".join(function.clauses).replace("|", "\\|")
                 said = "`%s`" % shown if shown else "none"
-                lines.append("| `%s` | %s | %s | %s |" % (name, said, one_result(name, promise), ruled_out(name, promise)))
+                by = result_by(function, fields)
+                lines.append("| `%s` | %s | %s | %s |" % (function.name, said, by, ruled_out(function, by)))
     return lines
 
 

@@ -72,7 +72,7 @@ pub record Table : Type 0 where
   pub E9 : (after (Tick ∷ []) e9 .runner ∷ places (after (Tick ∷ []) e9)) ≡ (2 ∷ 0 ∷ 1 ∷ 0 ∷ 0 ∷ [])
   pub E10 : (e10 .runner ∷ places e10) ≡ (3 ∷ 0 ∷ 0 ∷ 1 ∷ 0 ∷ [])
   pub E11 : (e11 5 .runner ∷ e11 6 .runner ∷ []) ≡ (1 ∷ 2 ∷ [])
-  pub run : map numbers (bookAnswers bookBoot wholeRun) ≡ ((0 ∷ 1 ∷ 255 ∷ []) ∷ (0 ∷ 255 ∷ 1 ∷ []) ∷ (0 ∷ 0 ∷ 1 ∷ []) ∷ [])
+  pub run : map numbers (bookAnswers bookBoot (map decoded wholeRun)) ≡ ((0 ∷ 1 ∷ 255 ∷ []) ∷ (0 ∷ 255 ∷ 1 ∷ []) ∷ (0 ∷ 0 ∷ 1 ∷ []) ∷ [])
 
 pub examples : Table
 unfolding after bookBoot enter placeOf kindOf runningIn show lower turn turnOf bookAnswers decoded byCode fits taken priority largestOwned same stand own better firstBelow marksBelow furthest above below arrive arriveInFront verdict ownedBy outcome run createThread acquire becomeOwner handOver release tie wait leave untie wake runs renewed expire expireBelow turnTo runNext isTick tabulate

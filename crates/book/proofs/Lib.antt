@@ -13,5 +13,9 @@ pub mod Steps
 pub mod Pages
 pub mod Demand
 pub mod Woken
+pub mod Accepted
+pub mod Expiry
+pub mod Ids
+pub mod Emptied
 pub mod Corollaries
 pub mod Examples

@@ -19,14 +19,14 @@ use Rattle.rules.specs.Next.{chooseNext}
 use Rattle.rules.specs.Effects.{withScheduler, given}
 use Rattle.rules.specs.Refusals.{verdictOf}
 use Rattle.rules.specs.Sound.{sound}
-use Rattle.rules.specs.Step.{Stepped, after, runner, accepted, refused, stepSound, stepDecoded, stepRow}
+use Rattle.rules.specs.Step.{Stepped, after, runner, accepted, refused, stepSound, stepDecoded}
 use Rattle.rules.specs.Step as T
 use Rattle.soundness.proofs.Facts.{Sound}
 use Rattle.soundness.proofs.Tested.{sound-facts}
 use Rattle.soundness.proofs.Keeping.{passed, sound-stays}
 use Rattle.soundness.proofs.Kept.{sound-steps}
 use Rattle.book.specs.Book.{Book}
-use Rattle.book.specs.Turns.{Turn, verdict, outcome, runNext, isTick, answered, turn, turnOf, turnRow}
+use Rattle.book.specs.Turns.{Turn, verdict, outcome, runNext, isTick, answered, turn, turnOf}
 use Rattle.book.proofs.Timers.{leftAt, timeless-next}
 use Rattle.book.proofs.Next.{alike-chosen}
 use Rattle.book.proofs.Same.{Same, same-verdict, same-started, same-running}
@@ -107,13 +107,10 @@ module _ {s : State} {b : Book} (o : Sound s) (x : Same s b) (call : Call) where
 
 -- ---- one row
 
-pub row-agree : (s : State) (b : Book) → sound s ≡ true → Same s b → (row : List ℕ) → Agree (stepRow s row) (turnRow b row)
-unfolding stepRow
-row-agree s b e x row = go (decoded row)
-  where
-    go : (d : Decoded) → Agree (stepDecoded s d) (turnOf b d)
-    go WrongForm = unfold stepDecoded turnOf in record {
-      answer = λ i. record { number = 17; given = 255; running = (cond-true (sound s) (runner s) 255 e ∙ same-running x (sound-facts s e)) i };
-      same = x;
-    }
-    go (Taken call) = unfold stepDecoded turnOf in (rw (sound-steps s call e) (call-agree (sound-facts s e) x call))
+pub row-agree : (s : State) (b : Book) → sound s ≡ true → Same s b → (row : Decoded) → Agree (stepDecoded s row) (turnOf b row)
+unfolding stepDecoded turnOf
+row-agree s b e x WrongForm = record {
+  answer = λ i. record { number = 17; given = 255; running = (cond-true (sound s) (runner s) 255 e ∙ same-running x (sound-facts s e)) i };
+  same = x;
+}
+row-agree s b e x (Taken call) = rw (sound-steps s call e) (call-agree (sound-facts s e) x call)

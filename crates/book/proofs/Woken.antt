@@ -101,7 +101,7 @@ elsewhere : (b : Book) (t c : ℕ) (v : Where) → standsAt b (onCondition c) t 
 elsewhere b t c v e n = ap (λ w. same w v) (same-true (thread b t .stands) (onCondition c) e) ∙ n
 
 module _ (b : Book) (t c : ℕ) (e : standsAt b (onCondition c) t ≡ true) where
-  on-the-list : t < length (b .threads)
+  pub on-the-list : t < length (b .threads)
   on-the-list = by-below t (length (b .threads)) (λ l. l) (λ l. absurd (false≢true
       (sym (ap (λ (x : Thread). same (x .stands) (onCondition c)) (List·getD-eq-default (b .threads) noThread l) ∙ (unfold same in refl)) ∙ e)))
 
@@ -162,7 +162,7 @@ record On (t m : ℕ) (b : Book) : Type 0 where
   toward : Toward t m b
 
 -- whoever stands at a place is found there, or another is
-stands-found : (b : Book) (w : Where) (u : ℕ) → standsAt b w u ≡ true → (n : ℕ) → u < n → firstBelow b w n ≡ nobody → ⊥
+pub stands-found : (b : Book) (w : Where) (u : ℕ) → standsAt b w u ≡ true → (n : ℕ) → u < n → firstBelow b w n ≡ nobody → ⊥
 unfolding firstBelow
 stands-found b w u e zero l q = not-suc-le-zero l
 stands-found b w u e (suc n) l q = go (standsAt b w n) refl q (stands-found b w u e n)

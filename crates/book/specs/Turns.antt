@@ -17,7 +17,6 @@ use Rattle.calls.specs.declared.Decoded.{Decoded}
 use Rattle.calls.specs.declared.Decoded.the-variants.{Taken, WrongForm}
 use Rattle.calls.specs.declared.Answer.{Answer}
 use Rattle.calls.specs.Answers.{numberOf, nothing}
-use Rattle.calls.specs.Rows.{decoded}
 use Rattle.rules.specs.State.{running, ready, forMutex, onCondition, Mutex, TimerState, stopped, oneShot, periodic}
 use Rattle.book.specs.Book.{Book, Timer, Found, nobody, somebody, mutex, tied, timer, stoppedTimer, withThreads, withMutexes, withTies, withTimers, withRunner, nextTick, nowStarted, stand, own, priority, standsAt, highestEarliest, marksBelow, above, arrive, arriveInFront}
 
@@ -243,16 +242,12 @@ unfoldable pub turnOf : Book → Decoded → Turn
 turnOf b (Taken call) = turn b call
 turnOf b WrongForm = answered WrongRow nothing b
 
--- a row of 8 bytes
-abbrev pub turnRow : Book → List ℕ → Turn
-turnRow b row = turnOf b (decoded row)
-
--- the answers to any number of rows
-unfoldable pub bookAnswers : Book → List (List ℕ) → List Answer
+-- the answers to any number of calls and rows of wrong form
+unfoldable pub bookAnswers : Book → List Decoded → List Answer
 bookAnswers b [] = []
-bookAnswers b (row ∷ rows) = turnRow b row .answer ∷ bookAnswers (turnRow b row .book) rows
+bookAnswers b (row ∷ rows) = turnOf b row .answer ∷ bookAnswers (turnOf b row .book) rows
 
 -- the book after them
-unfoldable pub bookFinal : Book → List (List ℕ) → Book
+unfoldable pub bookFinal : Book → List Decoded → Book
 bookFinal b [] = b
-bookFinal b (row ∷ rows) = bookFinal (turnRow b row .book) rows
+bookFinal b (row ∷ rows) = bookFinal (turnOf b row .book) rows

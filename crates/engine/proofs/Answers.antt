@@ -22,7 +22,7 @@ use Rattle.rules.specs.Refusals.{verdictOf}
 use Rattle.rules.specs.Step.{runner, isTick, after, refused, stepSound}
 use Rattle.soundness.proofs.Next.{Kept, Turned}
 use Rattle.meaning.specs.Stands.{schedulerOf}
-use Rattle.meaning.proofs.Sizes.{Sizes, sizes-next}
+use Rattle.soundness.proofs.Sizes.{Sizes, sizes-next}
 use Rattle.meaning.proofs.Signals.{choose-stands}
 use Rattle.engine.specs.declared.Engine.{Engine}
 use Rattle.engine.specs.declared.Stepped.{Stepped}

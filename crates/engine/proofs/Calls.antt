@@ -35,7 +35,7 @@ use Rattle.meaning.specs.Stands.{threadsOf, schedulerOf}
 use Rattle.meaning.proofs.Calls.{acquire-stands, release-stands, waited-stands}
 use Rattle.meaning.proofs.Signals.{signal-stands, broadcast-stands, run-stands}
 use Rattle.meaning.proofs.Creating.{create-stands, create-mutex-stands, create-condition-stands}
-use Rattle.meaning.proofs.Sizes.{Sizes, sizes-first, sizes-acquired, sizes-released, sizes-waited, sizes-signalled, sizes-times}
+use Rattle.soundness.proofs.Sizes.{Sizes, sizes-first, sizes-acquired, sizes-released, sizes-waited, sizes-signalled, sizes-times}
 use Rattle.engine.specs.Models.{withScheduler, startModel, createThreadModel, createMutexModel, createConditionModel, createTimerModel, acquireModel, releaseModel, waitModel, signalModel, broadcastModel}
 use Rattle.engine.specs.Stands.{rowOfTimer, timerIn, hungOf, engineOf, steppedOf}
 use Rattle.engine.proofs.Answers.{scheduler-stands, judged-stands}

@@ -40,7 +40,7 @@ use Rattle.soundness.proofs.Timers.{going-timer, timers-ticked}
 use Rattle.meaning.specs.Stands.{schedulerOf}
 use Rattle.meaning.proofs.Rows.{small-32}
 use Rattle.meaning.proofs.Signals.{signal-stands}
-use Rattle.meaning.proofs.Sizes.{sizes-each}
+use Rattle.soundness.proofs.Sizes.{sizes-each}
 use Rattle.engine.specs.declared.Timer as engine
 use Rattle.engine.specs.declared.Engine.{Engine}
 use Rattle.engine.specs.declared.Effect.{Effect}

@@ -1,4 +1,4 @@
--- What the code makes of a sound kernel and of one that is not meets the promise of a step; and that promise allows one result only.
+-- What the code makes of a sound kernel and of one that is not meets the promise of a step; and that promise allows one result, and one only.
 -- Assumes nothing.
 use mathlib.Core.Path.{_≡_, refl, sym, ap, _∙_}
 use mathlib.Core.Logic.{_⊎_, inl, inr, _↔_}
@@ -18,8 +18,8 @@ use Rattle.describe.specs.Models.{describeModel}
 use Rattle.build.specs.Models.{buildModel}
 use Rattle.kernel.specs.declared.Kernel.{Kernel}
 use Rattle.kernel.specs.declared.Stepped.{Stepped}
-use Rattle.kernel.specs.Kernels.{SoundKernel, refusal, unsoundVerdict, Steps}
-use Rattle.kernel.proofs.Sound.{pagePasses, page-fails, engine-decides, state-sound, sound-state}
+use Rattle.kernel.specs.Kernels.{SoundKernel, steppedOf, refusal, unsoundVerdict, Steps}
+use Rattle.kernel.proofs.Sound.{pagePasses, page-fails, engine-decides, state-sound, sound-state, one-state}
 
 -- ---- the two ways of a call
 
@@ -55,3 +55,23 @@ steps-once x row r q a b = go (sound-or-not x)
     go : SoundKernel x ⊎ (SoundKernel x → ⊥) → r ≡ q
     go (inl w) = let s = sound-state x w in a .of-sound (s .0) (s .1) (s .2) ∙ sym (b .of-sound (s .0) (s .1) (s .2))
     go (inr n) = a .of-unsound n ∙ sym (b .of-unsound n)
+
+-- ---- a result for every kernel
+
+-- the promise of a step can be met, of every kernel whatever and every row
+pub steps-met : (x : Kernel) (row : Decoded) → (r : Stepped) × Steps x row r
+steps-met x row = go (sound-or-not x)
+  where
+    go : SoundKernel x ⊎ (SoundKernel x → ⊥) → (r : Stepped) × Steps x row r
+    go (inl w) =
+        let s = sound-state x w in (
+          steppedOf (stepDecoded (s .0) row),
+          record {
+            of-sound = λ t o d. ap (λ (z : State). steppedOf (stepDecoded z row)) (one-state (s .0) t (s .1) o (sym (s .2) ∙ d));
+            of-unsound = λ n. absurd (n w);
+          },
+        )
+    go (inr n) = (
+      refusal x (numberOf (unsoundVerdict row)),
+      record { of-sound = λ t o d. absurd (n (state-sound x t o d)); of-unsound = λ m. refl },
+    )

@@ -24,7 +24,7 @@ use Rattle.rules.specs.State.{Where, running, ready, forMutex, onCondition, wai
 use Rattle.rules.specs.Page.{stateCode, objectCode}
 use Rattle.rules.specs.Effects.{acquired, passedTo, released, waited}
 use Rattle.soundness.proofs.Fits.{first-queue}
-use Rattle.soundness.proofs.Rows.{length-tie, base-below}
+use Rattle.soundness.proofs.Rows.{Real, length-tie, base-below}
 use Rattle.soundness.proofs.Facts.{Queued, low}
 use Rattle.soundness.proofs.Moves.{first-stands, first-exists, first-at, queued-leave, queued-tie}
 use Rattle.soundness.proofs.Next.{Kept}
@@ -34,7 +34,7 @@ use Rattle.meaning.proofs.Fresh.{has-set}
 use Rattle.meaning.proofs.Joining.{headOf, head-stands}
 use Rattle.meaning.proofs.Threads.{arrive-stands, wait-stands, leave-stands, stand-same}
 use Rattle.meaning.proofs.Owning.{mutex-read, own-stands, recount-stands}
-use Rattle.meaning.proofs.Sets.{set-read, set-put, mutexes-apart, conditions-apart, tie-put}
+use Rattle.meaning.proofs.Sets.{Narrow, setOf, withSet, set-found, set-stored, tie-put}
 
 -- ---- arriving, for a thread that has left its queue
 
@@ -43,43 +43,31 @@ module _ (h : Scheduler) (t : ℕ) (there : t < length (h .rows .threads)) (few 
   unfolding readyModel schedulerOf arrive
   ready-stands = ap (models.withThreads (schedulerOf h)) (arrive-stands (h .rows) (h .sets) t there few aside small) ∙ (unfold putSet setAt stand in refl)
 
-  -- the set at w, once t has come to it
-  abbrev come : Where → Waiting
-  come w = record { threads = threadsOf (stand (h .rows) t w) (putSet (h .sets) w (toBack (setAt (h .sets) w) (priority (h .rows) t) t)); set = queuesOf (toBack (setAt (h .sets) w) (priority (h .rows) t) t) }
+  -- it waits at a mutex or a condition variable
+  waits-there : (w : Where) → waits w ≡ true → Real (h .rows) w → Narrow (h .rows) w
+      → withSet (schedulerOf h) w (parts.waitModel (schedulerOf h .threads) (setOf (schedulerOf h) w) t (stateCode w) (objectCode w)) ≡ schedulerOf (arrive h t w)
+  waits-there w z r n =
+      let after = toBack (setAt (h .sets) w) (priority (h .rows) t) t in
+      let come : Waiting = record { threads = threadsOf (stand (h .rows) t w) (putSet (h .sets) w after); set = queuesOf after } in
+      let comes : parts.waitModel (schedulerOf h .threads) (setOf (schedulerOf h) w) t (stateCode w) (objectCode w) ≡ come =
+      ap (λ s. parts.waitModel (schedulerOf h .threads) s t (stateCode w) (objectCode w)) (set-found h w z r n)
+      ∙ (unfold schedulerOf in (wait-stands (h .rows) (h .sets) t there few aside small w r z)) in
+      ap (withSet (schedulerOf h) w) comes
+      ∙ (unfold arrive stand in (set-stored h _ w z r n (has-set aside w (unfold stand in (real-stand w r))) after))
+    where
+      real-stand : (w : Where) → Real (h .rows) w → Real (stand (h .rows) t running) w
+      real-stand running r = r
+      real-stand ready r = r
+      real-stand (forMutex m) r = unfold stand in r
+      real-stand (onCondition c) r = unfold stand in r
 
   pub wait-for-stands : (m : ℕ) → m < length (h .rows .mutexes) → length (h .rows .mutexes) ≤ 16 → waitForModel (schedulerOf h) t m ≡ schedulerOf (arrive h t (forMutex m))
-  wait-for-stands m real short = comes ∙ stored
-    where
-      comes : waitForModel (schedulerOf h) t m ≡ withForMutex (schedulerOf h) m (come (forMutex m))
-      comes = unfold waitForModel schedulerOf in (ap (λ s. withForMutex (schedulerOf h) m (parts.waitModel (threadsOf (h .rows) (h .sets)) s t 3 m)) (set-read (h .sets) forMutex m (omega arith))
-          ∙ ap (withForMutex (schedulerOf h) m) (unfold stateCode objectCode in (wait-stands (h .rows) (h .sets) t there few aside small (forMutex m) real refl)))
-
-      stored : withForMutex (schedulerOf h) m (come (forMutex m)) ≡ schedulerOf (arrive h t (forMutex m))
-      stored = unfold schedulerOf arrive in (ap (λ x. record {
-        threads = come (forMutex m) .threads;
-        mutexes = tabulate 16 (mutexIn (h .rows));
-        formutex = x;
-        ties = tabulate 16 (tied (h .rows));
-        oncondition = tabulate 16 (λ c. queuesOf (setAt (h .sets) (onCondition c)));
-        running = h .rows .runner;
-      }) (set-put (h .sets) forMutex mutexes-apart m (omega arith) (unfold stand in (has-set aside (forMutex m) (unfold stand in real))) (toBack (setAt (h .sets) (forMutex m)) (priority (h .rows) t) t)) ∙ (unfold putSet setAt stand in refl))
+  unfolding waitForModel stateCode objectCode
+  wait-for-stands m real short = waits-there (forMutex m) refl real short
 
   pub wait-on-stands : (c : ℕ) → c < length (h .rows .ties) → length (h .rows .ties) ≤ 16 → waitOnModel (schedulerOf h) t c ≡ schedulerOf (arrive h t (onCondition c))
-  wait-on-stands c real short = comes ∙ stored
-    where
-      comes : waitOnModel (schedulerOf h) t c ≡ withOnCondition (schedulerOf h) c (come (onCondition c))
-      comes = unfold waitOnModel schedulerOf in (ap (λ s. withOnCondition (schedulerOf h) c (parts.waitModel (threadsOf (h .rows) (h .sets)) s t 4 c)) (set-read (h .sets) onCondition c (omega arith))
-          ∙ ap (withOnCondition (schedulerOf h) c) (unfold stateCode objectCode in (wait-stands (h .rows) (h .sets) t there few aside small (onCondition c) real refl)))
-
-      stored : withOnCondition (schedulerOf h) c (come (onCondition c)) ≡ schedulerOf (arrive h t (onCondition c))
-      stored = unfold schedulerOf arrive in (ap (λ x. record {
-        threads = come (onCondition c) .threads;
-        mutexes = tabulate 16 (mutexIn (h .rows));
-        formutex = tabulate 16 (λ m. queuesOf (setAt (h .sets) (forMutex m)));
-        ties = tabulate 16 (tied (h .rows));
-        oncondition = x;
-        running = h .rows .runner;
-      }) (set-put (h .sets) onCondition conditions-apart c (omega arith) (unfold stand in (has-set aside (onCondition c) (unfold stand in real))) (toBack (setAt (h .sets) (onCondition c)) (priority (h .rows) t) t)) ∙ (unfold putSet setAt stand in refl))
+  unfolding waitOnModel stateCode objectCode
+  wait-on-stands c real short = waits-there (onCondition c) refl real short
 
 -- ---- leaving
 
@@ -88,39 +76,21 @@ module _ (h : Scheduler) (q : Queued (h .rows) (h .sets)) (few : length (h .rows
   abbrev gone : Where → Waiting
   gone w = record { threads = threadsOf (h .rows) (putSet (h .sets) w (firstLeaves (setAt (h .sets) w) p)); set = queuesOf (firstLeaves (setAt (h .sets) w) p) }
 
-  -- who leaves a mutex's set
-  pub leaves-mutex : (m : ℕ) → m < length (h .rows .mutexes) → length (h .rows .mutexes) ≤ 16 → leaveModelIn (schedulerOf h .threads) (forMutexOf (schedulerOf h) m) p ≡ gone (forMutex m)
-  leaves-mutex m real short = unfold schedulerOf in (ap (λ s. leaveModelIn (threadsOf (h .rows) (h .sets)) s p) (set-read (h .sets) forMutex m (omega arith)) ∙ leave-stands (h .rows) (h .sets) q few (forMutex m) real refl p low-p)
+  -- its first leaves a mutex or a condition variable
+  pub leaves-there : (w : Where) → waits w ≡ true → Real (h .rows) w → Narrow (h .rows) w → leaveModelIn (schedulerOf h .threads) (setOf (schedulerOf h) w) p ≡ gone w
+  leaves-there w z r n =
+      ap (λ s. leaveModelIn (schedulerOf h .threads) s p) (set-found h w z r n)
+      ∙ (unfold schedulerOf in (leave-stands (h .rows) (h .sets) q few w r z p low-p))
 
-  pub depart-mutex : (m : ℕ) → m < length (h .rows .mutexes) → length (h .rows .mutexes) ≤ 16 → withForMutex (schedulerOf h) m (leaveModelIn (schedulerOf h .threads) (forMutexOf (schedulerOf h) m) p) ≡ schedulerOf (depart h (forMutex m) p)
-  depart-mutex m real short = ap (withForMutex (schedulerOf h) m) (leaves-mutex m real short) ∙ stored
-    where
-      stored : withForMutex (schedulerOf h) m (gone (forMutex m)) ≡ schedulerOf (depart h (forMutex m) p)
-      stored = unfold schedulerOf depart in (ap (λ x. record {
-        threads = gone (forMutex m) .threads;
-        mutexes = tabulate 16 (mutexIn (h .rows));
-        formutex = x;
-        ties = tabulate 16 (tied (h .rows));
-        oncondition = tabulate 16 (λ c. queuesOf (setAt (h .sets) (onCondition c)));
-        running = h .rows .runner;
-      }) (set-put (h .sets) forMutex mutexes-apart m (omega arith) (has-set q (forMutex m) real) (firstLeaves (setAt (h .sets) (forMutex m)) p)) ∙ (unfold putSet setAt in refl))
+  pub departs-there : (w : Where) → waits w ≡ true → Real (h .rows) w → Narrow (h .rows) w
+      → withSet (schedulerOf h) w (leaveModelIn (schedulerOf h .threads) (setOf (schedulerOf h) w) p) ≡ schedulerOf (depart h w p)
+  departs-there w z r n =
+      ap (withSet (schedulerOf h) w) (leaves-there w z r n)
+      ∙ (unfold depart in (set-stored h (h .rows .threads) w z r n (has-set q w r) (firstLeaves (setAt (h .sets) w) p)))
 
-  -- who leaves a condition variable's set
-  pub leaves-condition : (c : ℕ) → c < length (h .rows .ties) → length (h .rows .ties) ≤ 16 → leaveModelIn (schedulerOf h .threads) (onConditionOf (schedulerOf h) c) p ≡ gone (onCondition c)
-  leaves-condition c real short = unfold schedulerOf in (ap (λ s. leaveModelIn (threadsOf (h .rows) (h .sets)) s p) (set-read (h .sets) onCondition c (omega arith)) ∙ leave-stands (h .rows) (h .sets) q few (onCondition c) real refl p low-p)
-
-  pub depart-condition : (c : ℕ) → c < length (h .rows .ties) → length (h .rows .ties) ≤ 16 → withOnCondition (schedulerOf h) c (leaveModelIn (schedulerOf h .threads) (onConditionOf (schedulerOf h) c) p) ≡ schedulerOf (depart h (onCondition c) p)
-  depart-condition c real short = ap (withOnCondition (schedulerOf h) c) (leaves-condition c real short) ∙ stored
-    where
-      stored : withOnCondition (schedulerOf h) c (gone (onCondition c)) ≡ schedulerOf (depart h (onCondition c) p)
-      stored = unfold schedulerOf depart in (ap (λ x. record {
-        threads = gone (onCondition c) .threads;
-        mutexes = tabulate 16 (mutexIn (h .rows));
-        formutex = tabulate 16 (λ m. queuesOf (setAt (h .sets) (forMutex m)));
-        ties = tabulate 16 (tied (h .rows));
-        oncondition = x;
-        running = h .rows .runner;
-      }) (set-put (h .sets) onCondition conditions-apart c (omega arith) (has-set q (onCondition c) real) (firstLeaves (setAt (h .sets) (onCondition c)) p)) ∙ (unfold putSet setAt in refl))
+-- the head of a mutex's or a condition variable's set
+pub head-there : {h : Scheduler} → Kept h → (w : Where) → waits w ≡ true → Real (h .rows) w → Narrow (h .rows) w → headModel (setOf (schedulerOf h) w) ≡ headOf (firstAt h w)
+head-there {h} o w z r n = ap headModel (set-found h w z r n) ∙ head-stands (o .queued) (o .facts .few) w r
 
 -- ---- 6 and 7
 
@@ -135,13 +105,13 @@ module _ {h : Scheduler} (o : Kept h) (g : Going (h .rows)) (m : ℕ) (real : m 
   row-of = unfold schedulerOf in (mutex-read (h .rows) m real short)
 
   pub head-of-mutex : headModel (forMutexOf (schedulerOf h) m) ≡ headOf (firstAt h (forMutex m))
-  head-of-mutex = unfold schedulerOf in (ap headModel (set-read (h .sets) forMutex m (omega (arith, short))) ∙ head-stands (o .queued) (o .facts .few) (forMutex m) real)
+  head-of-mutex = head-there o (forMutex m) refl real short
 
   passes-to : (mine : mutex (h .rows) m .owner ≡ h .rows .runner) (f : First) → firstAt h (forMutex m) ≡ f → cond (leb 16 (headOf f .priority)) (ownModel x m 255 0) (passToModel x m (headOf f)) ≡ schedulerOf (passedTo h m f)
   unfolding passedTo
   passes-to mine nobody e = own-stands h m 255 0 real short
   passes-to mine (somebody p t) e = rw (lt-leb 16 p low-p) (unfold passToModel in (
-      ap (λ y. readyModel (ownModel y m t 1) t) (depart-mutex h (o .queued) (o .facts .few) p low-p m real short)
+      ap (λ y. readyModel (ownModel y m t 1) t) (departs-there h (o .queued) (o .facts .few) p low-p (forMutex m) refl real short)
       ∙ ap (λ y. readyModel y t) (own-stands (depart h (forMutex m) p) m t 1 (unfold depart in real) (unfold depart in short))
       ∙ becomes-ready))
     where

@@ -5,7 +5,7 @@ use mathlib.Core.Path.{_≡_, refl, sym, ap, ap₂, _∙_}
 use mathlib.Core.Logic.{_≢_}
 use mathlib.Core.List.{List, [], _∷_, _++_, flatten, append-assoc, append-nil}
 use native.Mathlib.Omega.{arith}
-use lib.ListN.{length, set, List·getD-eq-default}
+use lib.ListN.{getD, length, set, List·getD-eq-default}
 use lib.Dec.{eqb}
 use borrow.Author.Tests.{eqb-true}
 use Rattle.laws.specs.Bools.{by-cases, self}
@@ -99,6 +99,12 @@ links-more : (xss yss : List QueueSet) → linksOf (flatten (xss ++ (emptySet �
 unfolding linksOf
 links-more xss yss = ap (λ l. record { next = l }) (tabulate-same 32 (λ t. linkOf t (flatten (xss ++ (emptySet ∷ yss)))) (λ t. linkOf t (flatten (xss ++ yss))) (λ t. link-more t xss yss))
 
+-- one empty set more at the end changes no set
+set-more : (l : List QueueSet) (i : ℕ) → getD l i emptySet ≡ getD (l ++ (emptySet ∷ [])) i emptySet
+set-more l i = sym (getD-more l emptySet emptySet i ∙ by-cases (eqb i (length l))
+    (λ e. rw (e, eqb-true i (length l) e) (sym (List·getD-eq-default l emptySet {n = length l} (omega arith))))
+    (λ e. rw e))
+
 -- ---- a mutex
 
 module _ {h : Scheduler} (o : Kept h) (c : ℕ) (room : length (h .rows .mutexes) < 16) where
@@ -118,9 +124,7 @@ module _ {h : Scheduler} (o : Kept h) (c : ℕ) (room : length (h .rows .mutexes
 
   sets-as-before : (m : ℕ) → setAt (h .sets) (forMutex m) ≡ setAt (mutexCreated h c .sets) (forMutex m)
   unfolding setAt mutexCreated
-  sets-as-before m = sym (getD-more (h .sets .mutex) emptySet emptySet m ∙ by-cases (eqb m (length (h .sets .mutex)))
-      (λ e. rw (e, eqb-true m (length (h .sets .mutex)) e) (sym (List·getD-eq-default (h .sets .mutex) emptySet {n = length (h .sets .mutex)} (omega arith))))
-      (λ e. rw e))
+  sets-as-before m = set-more (h .sets .mutex) m
 
   pub create-mutex-stands : createMutexModel (schedulerOf h) (length (h .rows .mutexes)) c ≡ schedulerOf (mutexCreated h c)
   unfolding createMutexModel schedulerOf threadsOf mutexCreated
@@ -157,9 +161,7 @@ module _ (h : Scheduler) where
 
   condition-sets : (c : ℕ) → setAt (h .sets) (onCondition c) ≡ setAt (conditionCreated h .sets) (onCondition c)
   unfolding setAt conditionCreated
-  condition-sets c = sym (getD-more (h .sets .condition) emptySet emptySet c ∙ by-cases (eqb c (length (h .sets .condition)))
-      (λ e. rw (e, eqb-true c (length (h .sets .condition)) e) (sym (List·getD-eq-default (h .sets .condition) emptySet {n = length (h .sets .condition)} (omega arith))))
-      (λ e. rw e))
+  condition-sets c = set-more (h .sets .condition) c
 
   pub create-condition-stands : schedulerOf h ≡ schedulerOf (conditionCreated h)
   unfolding schedulerOf threadsOf conditionCreated priority

@@ -1,5 +1,4 @@
 pub mod Sides
-pub mod Choice
 pub mod Fresh
 pub mod Joining
 pub mod Rows
@@ -9,4 +8,3 @@ pub mod Sets
 pub mod Calls
 pub mod Signals
 pub mod Creating
-pub mod Sizes

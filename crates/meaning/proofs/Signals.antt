@@ -31,13 +31,13 @@ use Rattle.soundness.proofs.Moves.{first-at, first-stands, first-exists, queued
 use Rattle.soundness.proofs.Next.{Kept, Turned}
 use Rattle.soundness.proofs.Calls.{Going, Left, left-signalled, nobody-255, stands-there, low-taken}
 use Rattle.meaning.specs.Stands.{threadsOf, mutexIn, schedulerOf}
-use Rattle.meaning.proofs.Choice.{choice}
+use Rattle.soundness.proofs.Choice.{choice}
 use Rattle.meaning.proofs.Fresh.{has-set}
 use Rattle.meaning.proofs.Joining.{headOf, head-stands}
 use Rattle.meaning.proofs.Threads.{ranOf, run-first-stands, choose-next-stands}
 use Rattle.meaning.proofs.Owning.{mutex-read, own-stands}
-use Rattle.meaning.proofs.Sets.{set-read, tie-read}
-use Rattle.meaning.proofs.Calls.{ready-stands, wait-for-stands, leaves-condition, depart-condition, tie-stands}
+use Rattle.meaning.proofs.Sets.{tie-read}
+use Rattle.meaning.proofs.Calls.{ready-stands, wait-for-stands, leaves-there, departs-there, head-there, tie-stands}
 
 -- ---- waking
 
@@ -73,7 +73,7 @@ module _ {h : Scheduler} (o : Kept h) (c : ℕ) (there : c < length (h .rows .ti
   its-mutex = tied (h .rows) c
 
   pub head-of-condition : headModel (onConditionOf (schedulerOf h) c) ≡ headOf (firstAt h (onCondition c))
-  head-of-condition = unfold schedulerOf in (ap headModel (set-read (h .sets) onCondition c (omega (arith, o .facts .few-ties))) ∙ head-stands (o .queued) (o .facts .few) (onCondition c) there)
+  head-of-condition = head-there o (onCondition c) refl there (o .facts .few-ties)
 
   module _ (p t : ℕ) (e : firstAt h (onCondition c) ≡ somebody p t) where
     abbrev d : Scheduler
@@ -133,8 +133,8 @@ module _ {h : Scheduler} (o : Kept h) (c : ℕ) (there : c < length (h .rows .ti
 
     signals-to : signalToModel (schedulerOf h) c (record { priority = p; thread = t }) ≡ schedulerOf (signalledTo h c (somebody p t))
     unfolding signalToModel leaveConditionModel signalledTo
-    signals-to = ap (λ y. wakeModel (untieModel y c (left .set)) (getD (schedulerOf h .ties) (c % 16) 0) t) (depart-condition h (o .queued) (o .facts .few) p low-p c there (o .facts .few-ties))
-        ∙ ap (λ (w : Waiting). wakeModel (untieModel (schedulerOf d) c (w .set)) (getD (schedulerOf h .ties) (c % 16) 0) t) (leaves-condition h (o .queued) (o .facts .few) p low-p c there (o .facts .few-ties))
+    signals-to = ap (λ y. wakeModel (untieModel y c (left .set)) (getD (schedulerOf h .ties) (c % 16) 0) t) (departs-there h (o .queued) (o .facts .few) p low-p (onCondition c) refl there (o .facts .few-ties))
+        ∙ ap (λ (w : Waiting). wakeModel (untieModel (schedulerOf d) c (w .set)) (getD (schedulerOf h .ties) (c % 16) 0) t) (leaves-there h (o .queued) (o .facts .few) p low-p (onCondition c) refl there (o .facts .few-ties))
         ∙ ap (λ m. wakeModel (untieModel (schedulerOf d) c (queuesOf (firstLeaves (setAt (h .sets) (onCondition c)) p))) m t) ties-read
         ∙ ap (λ y. wakeModel y its-mutex t) is-untied
         ∙ wakes (firstAt d (onCondition c))

@@ -1,4 +1,4 @@
--- The three ends of a save are document 01's, every byte of the buffer included; and what the promise of a save allows is one result only.
+-- The three ends of a save are document 01's, every byte of the buffer included; and what the promise of a save allows is one result, and one only.
 -- Assumes nothing.
 use Prim.Native.Nat.{ℕ, _+_, _<_, _≤_}
 use mathlib.Core.Path.{_≡_, refl, sym, ap, _∙_, subst}
@@ -15,7 +15,7 @@ use Rattle.rules.specs.State.{State}
 use Rattle.rules.specs.Sound.{sound}
 use Rattle.rules.specs.Page.{pageOf}
 use Rattle.saved.specs.Record.{recordOf}
-use Rattle.saved.specs.Loading.{saved}
+use Rattle.saved.specs.Loading.{saved, save}
 use Rattle.saved.proofs.Loading.{save-done, save-short}
 use Rattle.pages.proofs.Pages.{page-of-sound}
 use Rattle.engine.specs.Stands.{engineOf}
@@ -24,7 +24,7 @@ use Rattle.page.specs.Says.{said, pageFor}
 use Rattle.page.proofs.Says.{said-for}
 use Rattle.kernel.specs.declared.Kernel.{Kernel}
 use Rattle.kernel.specs.Kernels.{kernelOf, SoundKernel}
-use Rattle.kernel.proofs.Sound.{page-fits, state-sound, sound-state}
+use Rattle.kernel.proofs.Sound.{page-fits, state-sound, sound-state, one-state}
 use Rattle.kernel.proofs.Promised.{sound-or-not}
 use Rattle.record.specs.declared.Saved.{Saved}
 use Rattle.record.specs.Records.{savedOf, Saves}
@@ -77,3 +77,24 @@ saves-once x before r q a c m n = go (sound-or-not x)
         let one = m .of-unsound w in
         let other = n .of-unsound w in
         (one .0 ∙ sym (other .0), one .1 ∙ sym (other .1))
+
+-- the promise of a save can be met, of every kernel whatever and every buffer
+pub saves-met : (x : Kernel) (before : List ℕ) → (r : Saved) × (after : List ℕ) × Saves x before r after
+saves-met x before = go (sound-or-not x)
+  where
+    go : SoundKernel x ⊎ (SoundKernel x → ⊥) → (r : Saved) × (after : List ℕ) × Saves x before r after
+    go (inl w) =
+        let s = sound-state x w in
+        let one : (t : State) → sound t ≡ true → x ≡ kernelOf t → s .0 ≡ t = λ t o d. one-state (s .0) t (s .1) o (sym (s .2) ∙ d) in (
+          savedOf (save (s .0) before),
+          save (s .0) before .buffer,
+          record {
+            of-sound = λ t o d. (ap (λ (z : State). savedOf (save z before)) (one t o d), ap (λ (z : State). save z before .buffer) (one t o d));
+            of-unsound = λ n. absurd (n w);
+          },
+        )
+    go (inr n) = (
+      record { answer = numberOf NotSound; length = 0 },
+      before,
+      record { of-sound = λ t o d. absurd (n (state-sound x t o d)); of-unsound = λ m. (refl, refl) },
+    )

@@ -1,4 +1,4 @@
--- Demand 3 with the saved record's bytes: from boot or a record that loads, through any number of rows, the answers and the saved record of
+-- Demand 3 with the saved record's bytes: from boot or a record that loads, through any number of calls, the answers and the saved record of
 -- document 01's definition equal those of the plain book.
 -- Assumes nothing.
 use Prim.Native.Nat.{ℕ}

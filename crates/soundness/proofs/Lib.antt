@@ -11,3 +11,5 @@ pub mod Keeping
 pub mod Holding
 pub mod Tested
 pub mod Kept
+pub mod Choice
+pub mod Sizes

@@ -10,8 +10,8 @@ use Rattle.rules.specs.Queues.{First, nobody, somebody}
 use Rattle.rules.specs.State.{Where, running, ready, forMutex, onCondition, Scheduler, mutex, tied, withRows, stand, own, tie, firstAt, arrive, arriveInFront, depart}
 use Rattle.rules.specs.Next.{run, runFirst, chooseNext}
 use Rattle.rules.specs.Effects.{acquired, passedTo, released, waited, woken, untied, signalledTo, signalled, signalledTimes, signalledEach}
 use Rattle.soundness.proofs.Rows.{length-stand, length-own, length-tie}
-use Rattle.meaning.proofs.Choice.{either, choice}
+use Rattle.soundness.proofs.Choice.{either, choice}
 
 pub record Sizes (h g : Scheduler) : Type 0 where
   pub started : g .rows .started ≡ h .rows .started
@@ -33,7 +33,7 @@ sizes-own h m t n = record { started = unfold own in refl; threads = unfold own 
 sizes-tie : (h : Scheduler) (c m : ℕ) → Sizes h (withRows h (tie (h .rows) c m))
 sizes-tie h c m = record { started = unfold tie in refl; threads = unfold tie in refl; mutexes = unfold tie in refl; ties = length-tie (h .rows) c m }
 
-sizes-arrive : (h : Scheduler) (t : ℕ) (w : Where) → Sizes h (arrive h t w)
+pub sizes-arrive : (h : Scheduler) (t : ℕ) (w : Where) → Sizes h (arrive h t w)
 sizes-arrive h t w = unfold arrive in record { started = unfold stand in refl; threads = length-stand (h .rows) t w; mutexes = unfold stand in refl; ties = unfold stand in refl }
 
 sizes-front : (h : Scheduler) (t : ℕ) → Sizes h (arriveInFront h t)
