@@ -1,25 +1,17 @@
--- Whether two values are the same, as tests that compute: of lists, of each kind of row, and of engines field by field.
+-- Whether two values are the same, as tests that compute: of each kind of row, and of engines part by part.
 -- Assumes nothing.
-use mathlib.Core.Bool.{Bool, true, false, cond, not, _&&_}
-use mathlib.Core.List.{List, [], _∷_}
+use mathlib.Core.Bool.{Bool, cond, not, _&&_}
 use lib.Dec.{eqb}
+use Rattle.laws.specs.Same.{sameList}
 use Rattle.queue.specs.declared.Queue.{Queue}
 use Rattle.queue.specs.declared.Queues.{Queues}
 use Rattle.parts.specs.declared.Thread.{Thread}
 use Rattle.parts.specs.declared.Threads.{Threads}
 use Rattle.scheduler.specs.declared.Mutex.{Mutex}
 use Rattle.scheduler.specs.declared.Scheduler.{Scheduler}
-use Rattle.wheel.specs.declared.Wheel.{Wheel}
+use Rattle.wheel.specs.Promise.{sameWheel}
 use Rattle.engine.specs.declared.Timer.{Timer}
 use Rattle.engine.specs.declared.Engine.{Engine}
-
--- two lists, by a test of their entries
-module _ {A : Type 0} where
-  unfoldable pub sameList : (A → A → Bool) → List A → List A → Bool
-  sameList test [] [] = true
-  sameList test [] (y ∷ ys) = false
-  sameList test (x ∷ xs) [] = false
-  sameList test (x ∷ xs) (y ∷ ys) = test x y && sameList test xs ys
 
 -- two flags
 unfoldable pub sameFlag : Bool → Bool → Bool
@@ -43,7 +35,7 @@ sameMutex a b = eqb (a .ceiling) (b .ceiling) && (eqb (a .owner) (b .owner) && e
 
 -- two rows of timers
 unfoldable pub sameTimer : Timer → Timer → Bool
-sameTimer a b = eqb (a .state) (b .state) && (eqb (a .condition) (b .condition) && eqb (a .length) (b .length))
+sameTimer a b = eqb (a .state) (b .state) && (eqb (a .condition) (b .condition) && eqb (a .length .0) (b .length .0))
 
 -- the threads, their links and the ready queues
 unfoldable pub sameThreads : Threads → Threads → Bool
@@ -57,10 +49,6 @@ sameScheduler a b =
     && (sameList sameQueues (a .formutex) (b .formutex)
     && (sameList eqb (a .ties) (b .ties)
     && (sameList sameQueues (a .oncondition) (b .oncondition) && eqb (a .running) (b .running)))))
-
--- two wheels
-unfoldable pub sameWheel : Wheel → Wheel → Bool
-sameWheel a b = sameList eqb (a .spokes) (b .spokes) && (sameList eqb (a .turns) (b .turns) && (sameList eqb (a .spoke) (b .spoke) && eqb (a .position) (b .position)))
 
 -- whether started, and the counts
 unfoldable pub sameCounts : Engine → Engine → Bool

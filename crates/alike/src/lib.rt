@@ -1,5 +1,6 @@
 // Whether two engines are the same, every field of every row.
 use choice::both;
+use choice::same_bytes;
 use engine::Engine;
 use engine::Timer;
 use parts::Thread;
@@ -8,12 +9,12 @@ use queue::Queue;
 use queue::Queues;
 use scheduler::Mutex;
 use scheduler::Scheduler;
-use wheel::Wheel;
 ghost use mathlib.Core.Path.{_≡_};
 ghost use mathlib.Core.Logic.{_↔_};
 ghost use mathlib.Core.Bool.{true};
 ghost use lib.Dec.{eqb};
-ghost use Rattle.alike.specs.Tests.{sameList, sameFlag, sameQueue, sameQueues, sameThread, sameMutex, sameTimer, sameThreads, sameScheduler, sameWheel, sameCounts};
+ghost use Rattle.laws.specs.Same.{sameList};
+ghost use Rattle.alike.specs.Tests.{sameFlag, sameQueue, sameQueues, sameThread, sameMutex, sameTimer, sameThreads, sameScheduler, sameCounts};
 
 // The two flags are the same.
 fn same_flag(one: bool, other: bool) -> bool
@@ -25,54 +26,12 @@ fn same_flag(one: bool, other: bool) -> bool
     !other
 }
 
-// The 32 bytes are the same.
-fn same_bytes(one: [u8; 32], other: [u8; 32]) -> bool
-    ensures { λ r. ⌜ r ≡ sameList eqb one other ⌝ }
-{
-    let mut i: usize = 0;
-    while i < 32 {
-        if one[i] != other[i] {
-            return false;
-        }
-        i += 1;
-    }
-    true
-}
-
 // The 16 bytes are the same.
 fn same_ties(one: [u8; 16], other: [u8; 16]) -> bool
     ensures { λ r. ⌜ r ≡ sameList eqb one other ⌝ }
 {
     let mut i: usize = 0;
     while i < 16 {
-        if one[i] != other[i] {
-            return false;
-        }
-        i += 1;
-    }
-    true
-}
-
-// The 32 numbers of 16 bits are the same.
-fn same_turns(one: [u16; 32], other: [u16; 32]) -> bool
-    ensures { λ r. ⌜ r ≡ sameList eqb one other ⌝ }
-{
-    let mut i: usize = 0;
-    while i < 32 {
-        if one[i] != other[i] {
-            return false;
-        }
-        i += 1;
-    }
-    true
-}
-
-// The 64 numbers of 32 bits are the same.
-fn same_spokes(one: [u32; 64], other: [u32; 64]) -> bool
-    ensures { λ r. ⌜ r ≡ sameList eqb one other ⌝ }
-{
-    let mut i: usize = 0;
-    while i < 64 {
         if one[i] != other[i] {
             return false;
         }
@@ -182,7 +141,10 @@ fn same_mutexes(one: [Mutex; 16], other: [Mutex; 16]) -> bool
 fn same_timer(one: Timer, other: Timer) -> bool
     ensures { λ r. ⌜ r ≡ sameTimer one other ⌝ }
 {
-    let lengths = both(one.condition == other.condition, one.length == other.length);
+    let lengths = both(
+        one.condition == other.condition,
+        one.length.0 == other.length.0,
+    );
     both(one.state == other.state, lengths)
 }
 
@@ -239,25 +201,6 @@ fn same_scheduler(one: Scheduler, other: Scheduler) -> bool
     both(threads, both(owned, both(awaited, last)))
 }
 
-// Two wheels are the same.
-fn same_wheel(one: Wheel, other: Wheel) -> bool
-    ensures { λ r. ⌜ r ≡ sameWheel one other ⌝ }
-{
-    let spokes = one.spokes;
-    let other_spokes = other.spokes;
-    let hung = same_spokes(spokes, other_spokes);
-    let turns = one.turns;
-    let other_turns = other.turns;
-    let turned = same_turns(turns, other_turns);
-    let spoke = one.spoke;
-    let other_spoke = other.spoke;
-    let found = same_bytes(spoke, other_spoke);
-    both(
-        hung,
-        both(turned, both(found, one.position == other.position)),
-    )
-}
-
 // Whether started and the counts are the same.
 fn same_counts(one: Engine, other: Engine) -> bool
     ensures { λ r. ⌜ r ≡ sameCounts one other ⌝ }
@@ -282,7 +225,8 @@ pub fn same(one: Engine, other: Engine) -> bool
     let timers = one.timers;
     let other_timers = other.timers;
     let clocks = same_timers(timers, other_timers);
-    let wheels = same_wheel(one.wheel, other.wheel);
+    let wheel = one.wheel;
+    let wheels = wheel.same(other.wheel);
     let counts = same_counts(one, other);
     both(schedulers, both(clocks, both(wheels, counts)))
 }

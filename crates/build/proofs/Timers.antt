@@ -10,6 +10,7 @@ use lib.Dec.{ltb}
 use borrow.Author.Tests.{lt-ltb, le-ltb}
 use Rattle.laws.specs.Bools.{and-right, cond-true, cond-false}
 use Rattle.laws.specs.Lists.{by-below, tabulate, length-tabulate, getD-tabulate, tabulate-below, tabulate-same}
+use Rattle.units.specs.Units.{inTicks}
 use Rattle.wheel.specs.Hung.{Hung, Good, empty, started, filled}
 use Rattle.wheel.specs.Promise.{wheelOf, startedIn}
 use Rattle.wheel.proofs.Promise.{start-hangs, good-empty, good-started, fill-none, fill-next}
@@ -19,7 +20,7 @@ use Rattle.rules.specs.Page.{rowsOf, timerStateOf, timerOf, describedBy, thread
 use Rattle.pages.proofs.Rows.{row-passes, timer-row-found}
 use Rattle.engine.specs.declared.Timer as engine
 use Rattle.engine.specs.Models.{stoppedRow}
-use Rattle.engine.specs.Stands.{timerIn, hungOf}
+use Rattle.engine.specs.Stands.{rowOfTimer, timerIn, hungOf}
 use Rattle.engine.proofs.Timers.{timer-at, left-short}
 use Rattle.page.specs.declared.TimerRow.{TimerRow}
 use Rattle.page.specs.declared.Page.{Page}
@@ -65,13 +66,10 @@ module _ (x : Page) (formed : pageFormed (said x) ≡ true) (e : pageSound (said
 
   -- the rows of the timers
   pub timers-said : timerRows (x .timerrows) (x .timers) ≡ tabulate 32 (timerIn (map timerOf (said x .timers)))
-  timers-said = rows ∙ tabulate-same 32 (λ i. row (getD (said x .timers) i stoppedTimerRow)) (timerIn ts) (λ i. ap in-engine (sym (timer-of i)))
+  timers-said = rows ∙ tabulate-same 32 (λ i. row (getD (said x .timers) i stoppedTimerRow)) (timerIn ts) (λ i. ap rowOfTimer (sym (timer-of i)))
     where
-      in-engine : Timer → engine.Timer
-      in-engine y = record { state = timerCode (y .state); condition = y .condition; length = y .length }
-
       row : rules.TimerRow → engine.Timer
-      row y = record { state = timerCode (timerStateOf (y .state)); condition = y .condition; length = y .length }
+      row y = record { state = timerCode (timerStateOf (y .state)); condition = y .condition; length = inTicks (y .length) }
 
       rows : timerRows (x .timerrows) (x .timers) ≡ tabulate 32 (λ i. row (getD (said x .timers) i stoppedTimerRow))
       rows = unfold timerRows said timerStateOf timerCode in (table-said 32 (x .timers) (λ i. timerFrom (getD (x .timerrows) i noTimerRow)) stoppedRow timers-few row (λ i. timerSaid (getD (x .timerrows) i noTimerRow)) stoppedTimerRow
@@ -85,7 +83,7 @@ module _ (x : Page) (formed : pageFormed (said x) ≡ true) (e : pageSound (said
   lefts = tabulate 32 (λ i. timer ts i .left)
 
   -- are those of the rows in use
-  left-said : (i : ℕ) → i < x .timers → getD (x .timerrows) i noTimerRow .left ≡ getD lefts i 0
+  left-said : (i : ℕ) → i < x .timers → getD (x .timerrows) i noTimerRow .left .0 ≡ getD lefts i 0
   left-said i l = sym (getD-tabulate 32 (λ j. timer ts j .left) i 0 (omega (arith, timers-few)) ∙ ap (λ (y : Timer). y .left) (timer-of i) ∙ ap (λ (y : rules.TimerRow). y .left) (row-said i l))
 
   -- none is long
@@ -108,7 +106,7 @@ module _ (x : Page) (formed : pageFormed (said x) ≡ true) (e : pageSound (said
       next = fill-next (x .count % 64) lefts i small
 
       more : Good (filled (x .count % 64) lefts i) × (hungBelow (x .timerrows) i (wheelOf (empty (x .count))) ≡ wheelOf (filled (x .count % 64) lefts i))
-          → Good (filled (x .count % 64) lefts (suc i)) × (startedIn (hungBelow (x .timerrows) i (wheelOf (empty (x .count)))) i (getD (x .timerrows) i noTimerRow .left) ≡ wheelOf (filled (x .count % 64) lefts (suc i)))
+          → Good (filled (x .count % 64) lefts (suc i)) × (startedIn (hungBelow (x .timerrows) i (wheelOf (empty (x .count)))) i (getD (x .timerrows) i noTimerRow .left .0) ≡ wheelOf (filled (x .count % 64) lefts (suc i)))
       more g = (
         subst Good next (good-started h (g .0) i (getD lefts i 0) (short i small)),
         ap₂ (λ w r. startedIn w i r) (g .1) (left-said i l) ∙ start-hangs h (g .0) i (getD lefts i 0) ∙ ap wheelOf next,

@@ -60,7 +60,7 @@ timerRows rows n = filled 32 (λ i. timerFrom (getD rows i noTimerRow)) stoppedR
 -- the wheel once the timers below n are hung for their ticks left
 unfoldable pub hungBelow : List TimerRow → ℕ → Wheel → Wheel
 hungBelow rows zero w = w
-hungBelow rows (suc i) w = startedIn (hungBelow rows i w) i (getD rows i noTimerRow .left)
+hungBelow rows (suc i) w = startedIn (hungBelow rows i w) i (getD rows i noTimerRow .left .0)
 
 -- the first of n threads from t on that runs, 255 for none
 unfoldable pub runnerIn : List ThreadRow → ℕ → ℕ → ℕ

@@ -106,7 +106,7 @@ fn timer_rows(rows: [TimerRow; 32], n: u8) -> [Timer; 32]
     let stopped = Timer {
         state: 0,
         condition: 255,
-        length: 0,
+        length: Ticks(0),
     };
     let mut made = [stopped; 32];
     let most = smaller(n, 32);
@@ -114,10 +114,11 @@ fn timer_rows(rows: [TimerRow; 32], n: u8) -> [Timer; 32]
     while id < most {
         let i = id as usize;
         let row = rows[i];
+        let length = row.length;
         made[i] = Timer {
             state: row.state,
             condition: row.condition,
-            length: row.length,
+            length,
         };
         id += 1;
     }
@@ -134,7 +135,7 @@ fn hang(rows: [TimerRow; 32], n: u8, count: u32) -> Wheel
     while id < most {
         let i = id as usize;
         let row = rows[i];
-        let after = wheel.start(id, Ticks(row.left));
+        let after = wheel.start(id, row.left);
         wheel = after;
         id += 1;
     }

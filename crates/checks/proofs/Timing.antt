@@ -32,7 +32,7 @@ at-rest false b = and-true b
 
 -- a stopped timer has 255, 0 and 0
 pub timer-stopped : (x : Known) (row : TimerRow) → row .state ≡ 0
-    → timerFits x row ≡ (eqb (row .condition) 255 && eqb (row .length) 0 && eqb (row .left) 0)
+    → timerFits x row ≡ (eqb (row .condition) 255 && eqb (row .length .0) 0 && eqb (row .left .0) 0)
 unfolding timerFits runsOn
 timer-stopped x row e = rw (goes-state (row .state), eq-eqb _ _ e, le-leb (row .state) 2 (omega arith)) (at-rest (x .started) _)
 
@@ -46,9 +46,9 @@ together true true true true true = refl
 together true true true true false = refl
 
 -- a running timer has an existing condition variable, ticks left from 1 to n, and the page is started
-pub timer-runs : (x : Known) (row : TimerRow) → (row .state ≡ 0 → ⊥) → row .length ≤ 65535
-    → timerFits x row ≡ (leb (row .state) 2 && (ltb (row .condition) (x .conditions) && (leb 1 (row .left) && leb (row .left) (row .length)) && x .started))
+pub timer-runs : (x : Known) (row : TimerRow) → (row .state ≡ 0 → ⊥) → row .length .0 ≤ 65535
+    → timerFits x row ≡ (leb (row .state) 2 && (ltb (row .condition) (x .conditions) && (leb 1 (row .left .0) && leb (row .left .0) (row .length .0)) && x .started))
 unfolding timerFits runsOn
 timer-runs x row n h =
-    rw (goes-state (row .state), ne-eqb _ _ n, le-leb (row .length) 65535 h)
-    (together (leb (row .state) 2) (ltb (row .condition) (x .conditions)) (leb 1 (row .left)) (leb (row .left) (row .length)) (x .started))
+    rw (goes-state (row .state), ne-eqb _ _ n, le-leb (row .length .0) 65535 h)
+    (together (leb (row .state) 2) (ltb (row .condition) (x .conditions)) (leb 1 (row .left .0)) (leb (row .left .0) (row .length .0)) (x .started))

@@ -27,8 +27,8 @@ timerAt rows i = getD rows (i % 32) noTimerRow
 -- a running timer has an existing condition variable and ticks left from 1 to n, a stopped one 255, 0 and 0
 unfoldable pub runsOn : ℕ → TimerRow → Bool
 runsOn n row =
-    cond (goes (timerStateOf (row .state))) (ltb (row .condition) n && leb 1 (row .left) && leb (row .left) (row .length) && leb (row .length) 65535)
-    (eqb (row .condition) 255 && eqb (row .length) 0 && eqb (row .left) 0)
+    cond (goes (timerStateOf (row .state))) (ltb (row .condition) n && leb 1 (row .left .0) && leb (row .left .0) (row .length .0) && leb (row .length .0) 65535)
+    (eqb (row .condition) 255 && eqb (row .length .0) 0 && eqb (row .left .0) 0)
 
 -- that, a state as the record has it, and none runs while stopped
 unfoldable pub timerFits : Known → TimerRow → Bool

@@ -25,10 +25,10 @@ fn timer_fits(known: Known, row: TimerRow) -> bool
     ensures { λ r. ⌜ r ≡ timerFits known row ⌝ }
 {
     if row.state == 0 {
-        let blank = both(row.condition == 255, row.length == 0);
-        return both(blank, row.left == 0);
+        let blank = both(row.condition == 255, row.length.0 == 0);
+        return both(blank, row.left.0 == 0);
     }
-    let counts = both(1 <= row.left, row.left <= row.length);
+    let counts = both(1 <= row.left.0, row.left.0 <= row.length.0);
     let runs = both(row.condition < known.conditions, counts);
     both(row.state <= 2, both(runs, known.started))
 }

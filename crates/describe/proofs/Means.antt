@@ -13,6 +13,7 @@ use Rattle.queue.proofs.Sets.{level-of}
 use Rattle.queue.proofs.Canon.{read-in}
 use Rattle.parts.specs.declared.Thread as parts
 use Rattle.scheduler.specs.Models.{rowModel}
+use Rattle.units.specs.Units.{inTicks}
 use Rattle.wheel.specs.Promise.{wheelOf, leftIn}
 use Rattle.wheel.proofs.Promise.{left-hung}
 use Rattle.rules.specs.Queues.{queue}
@@ -96,7 +97,7 @@ timer-is : (k : Rows) (count : ℕ) (ts : List Timer) → timersSound k ts ≡ t
     → timerAt (tabulate 32 (timerIn ts)) (wheelOf (hungOf count ts)) i ≡ timerFor (getD (map timerRowOf ts) i stoppedTimerRow)
 unfolding timerModel
 timer-is k count ts e i l =
-    (λ j. record { state = r j .state; condition = r j .condition; length = r j .length; left = left j })
+    (λ j. record { state = r j .state; condition = r j .condition; length = r j .length; left = inTicks (left j) })
     ∙ ap timerFor (sym (unfold timerCode in List·getD-map timerRowOf ts i stoppedTimer))
   where
     r : getD (tabulate 32 (timerIn ts)) i noTimer ≡ timerIn ts i

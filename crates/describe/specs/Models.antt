@@ -11,6 +11,7 @@ use Rattle.queue.specs.Models.{readModel, levelModel}
 use Rattle.parts.specs.declared.Thread.{Thread}
 use Rattle.scheduler.specs.declared.Scheduler.{Scheduler}
 use Rattle.scheduler.specs.Models.{forMutexOf, onConditionOf, rowModel}
+use Rattle.units.specs.Units.{inTicks}
 use Rattle.wheel.specs.declared.Wheel.{Wheel}
 use Rattle.wheel.specs.Promise.{leftIn}
 use Rattle.engine.specs.declared.Timer.{Timer}
@@ -41,7 +42,7 @@ threadModel x t =
 
 -- the page's row of timer i with this row
 unfoldable pub timerModel : Timer → Wheel → ℕ → TimerRow
-timerModel row w i = record { state = row .state; condition = row .condition; length = row .length; left = leftIn w i }
+timerModel row w i = record { state = row .state; condition = row .condition; length = row .length; left = inTicks (leftIn w i) }
 
 -- the page's row of timer i of a table
 abbrev pub timerAt : List Timer → Wheel → ℕ → TimerRow

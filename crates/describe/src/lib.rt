@@ -9,6 +9,7 @@ use queue::Links;
 use queue::Queue;
 use queue::Queues;
 use scheduler::Scheduler;
+use units::Ticks;
 use wheel::Wheel;
 ghost use mathlib.Core.Path.{_≡_};
 ghost use mathlib.Core.Bool.{true};
@@ -109,12 +110,13 @@ fn thread_rows(scheduler: Scheduler) -> [ThreadRow; 32]
 fn timer_row(row: Timer, wheel: Wheel, id: u8) -> TimerRow
     ensures { λ r. ⌜ r ≡ timerModel row wheel id ⌝ }
 {
+    let length = row.length;
     let left = wheel.left(id);
     TimerRow {
         state: row.state,
         condition: row.condition,
-        length: row.length,
-        left: left.0,
+        length,
+        left,
     }
 }
 
@@ -125,8 +127,8 @@ fn timer_rows(timers: [Timer; 32], wheel: Wheel) -> [TimerRow; 32]
     let stopped = TimerRow {
         state: 0,
         condition: 255,
-        length: 0,
-        left: 0,
+        length: Ticks(0),
+        left: Ticks(0),
     };
     let mut rows = [stopped; 32];
     let mut id: u8 = 0;

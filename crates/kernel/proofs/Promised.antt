@@ -13,7 +13,7 @@ use Rattle.engine.specs.declared.Stepped as engine
 use Rattle.engine.specs.Stands as stands
 use Rattle.engine.specs.Stands.{engineOf}
 use Rattle.alike.specs.Tests.{sameEngine}
-use Rattle.alike.proofs.Deciding.{same-exactly}
+use Rattle.alike.proofs.Deciding.{engines-exactly}
 use Rattle.describe.specs.Models.{describeModel}
 use Rattle.build.specs.Models.{buildModel}
 use Rattle.kernel.specs.declared.Kernel.{Kernel}
@@ -44,7 +44,7 @@ module _ (x : Kernel) {b : Bool} (tested : (b ≡ true) ↔ SoundKernel x) where
 -- a kernel is sound or it is not
 pub sound-or-not : (x : Kernel) → SoundKernel x ⊎ (SoundKernel x → ⊥)
 sound-or-not x = by-cases (pagePasses (x .engine))
-    (λ e. let d = engine-decides x (sameEngine (x .engine) (buildModel (describeModel (x .engine)))) e (same-exactly (x .engine) (buildModel (describeModel (x .engine))) (sameEngine (x .engine) (buildModel (describeModel (x .engine)))) refl) in
+    (λ e. let d = engine-decides x (sameEngine (x .engine) (buildModel (describeModel (x .engine)))) e (engines-exactly (x .engine) (buildModel (describeModel (x .engine)))) in
     by-cases (sameEngine (x .engine) (buildModel (describeModel (x .engine)))) (λ t. inl (d .0 t)) (λ f. inr (λ w. true≢false (sym (d .1 w) ∙ f))))
     (λ e. inr (λ w. true≢false (sym (page-fails x e .1 w))))
 

@@ -4,6 +4,7 @@ use mathlib.Core.Bool.{false}
 use mathlib.Core.List.{[]}
 use lib.ListN.{length, getD}
 use Rattle.laws.specs.Lists.{tabulate}
+use Rattle.units.specs.Units.{inTicks}
 use Rattle.rules.specs.State as state
 use Rattle.rules.specs.Page as rules
 use Rattle.scheduler.specs.declared.Mutex as scheduler
@@ -23,7 +24,7 @@ mutexSaid row = record { ceiling = row .ceiling; owner = row .owner; count = row
 
 -- of a timer
 abbrev pub timerSaid : TimerRow → rules.TimerRow
-timerSaid row = record { state = row .state; condition = row .condition; length = row .length; left = row .left }
+timerSaid row = record { state = row .state; condition = row .condition; length = row .length .0; left = row .left .0 }
 
 -- the row that says it, of a thread
 abbrev pub threadFor : rules.ThreadRow → ThreadRow
@@ -35,7 +36,7 @@ mutexFor row = record { ceiling = row .ceiling; owner = row .owner; count = row 
 
 -- of a timer
 abbrev pub timerFor : rules.TimerRow → TimerRow
-timerFor row = record { state = row .state; condition = row .condition; length = row .length; left = row .left }
+timerFor row = record { state = row .state; condition = row .condition; length = inTicks (row .length); left = inTicks (row .left) }
 
 -- rows that the code reads past the end of an array
 abbrev pub noThreadRow : ThreadRow
@@ -45,7 +46,7 @@ abbrev pub noMutexRow : scheduler.Mutex
 noMutexRow = record { ceiling = 0; owner = 0; count = 0 }
 
 abbrev pub noTimerRow : TimerRow
-noTimerRow = record { state = 0; condition = 0; length = 0; left = 0 }
+noTimerRow = record { state = 0; condition = 0; length = inTicks 0; left = inTicks 0 }
 
 -- the row of a timer that is not there
 abbrev pub stoppedTimerRow : rules.TimerRow

@@ -1,5 +1,6 @@
 // A page: what a saved record says, as plain rows of numbers. Rows past a table's count say nothing and are blank.
 use scheduler::Mutex;
+use units::Ticks;
 ghost use mathlib.Core.Path.{_≡_};
 ghost use lib.ListN.{getD};
 ghost use Rattle.page.specs.Says.{noThreadRow, noMutexRow, noTimerRow, pageFor, emptyPage};
@@ -17,8 +18,8 @@ pub struct ThreadRow {
 pub struct TimerRow {
     pub state: u8,
     pub condition: u8,
-    pub length: u16,
-    pub left: u16,
+    pub length: Ticks,
+    pub left: Ticks,
 }
 
 // Whether started, the tick count, how many threads, mutexes, condition variables and timers there are, and their four tables.
@@ -88,8 +89,8 @@ pub fn timer_row(rows: [TimerRow; 32], t: u8) -> TimerRow
     TimerRow {
         state: 0,
         condition: 0,
-        length: 0,
-        left: 0,
+        length: Ticks(0),
+        left: Ticks(0),
     }
 }
 
@@ -115,8 +116,8 @@ impl Page {
         let stopped = TimerRow {
             state: 0,
             condition: 255,
-            length: 0,
-            left: 0,
+            length: Ticks(0),
+            left: Ticks(0),
         };
         let timerrows = [stopped; 32];
         Page {

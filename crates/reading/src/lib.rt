@@ -6,6 +6,7 @@ use page::TimerRow;
 use page::thread_row;
 use page::timer_row;
 use scheduler::Mutex;
+use units::Ticks;
 use writing::total;
 use writing::write;
 ghost use Prim.Native.Nat.{_+_};
@@ -88,8 +89,8 @@ fn timer_at(bytes: &[u8], at: u16, further: u16) -> TimerRow
     TimerRow {
         state,
         condition,
-        length,
-        left,
+        length: Ticks(length),
+        left: Ticks(left),
     }
 }
 
@@ -142,8 +143,8 @@ fn timer_or(bytes: &[u8], at: u16, n: u8, i: u8) -> TimerRow
     TimerRow {
         state: 0,
         condition: 255,
-        length: 0,
-        left: 0,
+        length: Ticks(0),
+        left: Ticks(0),
     }
 }
 
@@ -210,8 +211,8 @@ fn read_timers(bytes: &[u8], at: u16, n: u8) -> [TimerRow; 32]
     let stopped = TimerRow {
         state: 0,
         condition: 255,
-        length: 0,
-        left: 0,
+        length: Ticks(0),
+        left: Ticks(0),
     };
     let mut rows = [stopped; 32];
     let mut t: u8 = 0;

@@ -1,2 +1,3 @@
 pub mod Serving
 pub mod Ticking
+pub mod Starting

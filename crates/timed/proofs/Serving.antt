@@ -69,7 +69,7 @@ module _ (k k′ : List ℕ) (ts : List Timer) (w : Wheel) (count i left : ℕ) 
   in-table = omega (arith, low)
 
   -- a periodic one
-  pub serves-periodic : (w′ : Wheel) → row .state ≡ 2 → w′ ≡ startedIn w i (row .length) → engineIn k′ (record { timers = ts; wheel = w′; count = count }) counts ≡ serveModel before-it i
+  pub serves-periodic : (w′ : Wheel) → row .state ≡ 2 → w′ ≡ startedIn w i (row .length .0) → engineIn k′ (record { timers = ts; wheel = w′; count = count }) counts ≡ serveModel before-it i
   unfolding serveModel
   serves-periodic w′ h again = rw (in-table, ← read, eq-eqb (row .state) 2 h) (λ j. engineWith (signalled j .scheduler) ts (again j))
 

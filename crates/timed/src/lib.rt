@@ -4,19 +4,20 @@ use calls::Kind;
 use calls::Verdict;
 use calls::number;
 use engine::Timer;
-use engine::length_of;
 use engine::state_of;
 use owners::signal;
 use plain::Clock;
 use plain::Counts;
 use plain::finish;
 use plain::refuse;
+use units::Length;
 use units::Micros;
 use units::Ticks;
-use verdicts::delay_verdict;
+use units::ticks_of;
 use verdicts::first_of;
 use verdicts::id_verdict;
 use verdicts::ids_verdict;
+use verdicts::start_timer_verdict;
 use verdicts::stop_verdict;
 use wheel::Due;
 ghost use mathlib.Core.Path.{_≡_};
@@ -53,14 +54,18 @@ pub fn start_timer(
     let i = (id % 32) as usize;
     let row = clock.timers[i];
     let ids = ids_verdict(counts.started, counts.clocks, id, counts.conditions, c);
-    let delay = delay_verdict(v, row.state);
-    let verdict = first_of(ids, delay);
+    let Length::Whole(length) = ticks_of(v) else {
+        let verdict = first_of(ids, Verdict::OutOfRange);
+        let answer = refuse(cells, verdict);
+        return Timed { clock, answer };
+    };
+    let stopped = start_timer_verdict(row.state);
+    let verdict = first_of(ids, stopped);
     let n = number(verdict);
     if n != 0 {
         let answer = refuse(cells, verdict);
         return Timed { clock, answer };
     }
-    let length = length_of(v);
     let state = state_of(kind);
     clock.timers[i] = Timer {
         state,
@@ -68,7 +73,7 @@ pub fn start_timer(
         length,
     };
     let wheel = clock.wheel;
-    let after = wheel.start(id, Ticks(length));
+    let after = wheel.start(id, length);
     clock.wheel = after;
     let answer = finish(cells, counts, 255, false);
     Timed { clock, answer }
@@ -91,7 +96,7 @@ pub fn stop_timer(cells: &mut [u8; 1281], mut clock: Clock, counts: Counts, id: 
     clock.timers[i] = Timer {
         state: 0,
         condition: 255,
-        length: 0,
+        length: Ticks(0),
     };
     let wheel = clock.wheel;
     let after = wheel.stop(id);
@@ -114,12 +119,12 @@ fn serve_all(cells: &mut [u8; 1281], clock: Clock, due: Due) -> Served
         let row = timers[i];
         signal(cells, row.condition);
         if row.state == 2 {
-            wheel = wheel.start(id, Ticks(row.length));
+            wheel = wheel.start(id, row.length);
         } else {
             timers[i] = Timer {
                 state: 0,
                 condition: 255,
-                length: 0,
+                length: Ticks(0),
             };
         }
         left = left.rest();

@@ -1,13 +1,12 @@
--- What each contract comes to, from what the code makes of any tables; and that the tests of the tables decide whether two wheels are one.
+-- What each contract comes to, from what the code makes of any tables.
 -- Assumes nothing.
 use Prim.Native.Nat.{ℕ, _<_}
 use mathlib.Core.Path.{_≡_, sym, ap, _∙_}
-use Rattle.laws.specs.Same.{Decides, numbers, lists, pairs, through}
 use Rattle.wheel.specs.declared.Wheel.{Wheel}
 use Rattle.wheel.specs.declared.Due.{Due}
 use Rattle.wheel.specs.declared.Ticked.{Ticked}
 use Rattle.wheel.specs.Hung.{Hung, Good, left, started, stopped, due}
-use Rattle.wheel.specs.Inside.{hungIn, takenIn, wayIn, turnedIn, lowestOff, sameTables}
+use Rattle.wheel.specs.Inside.{hungIn, takenIn, wayIn, turnedIn, lowestOff}
 use Rattle.wheel.specs.Promise.{wheelOf, startedIn, stoppedIn, leftIn, tickedIn, tickedOf, idsOf, withoutFirst, rest}
 use Rattle.wheel.specs.Promise.Opened.{started-is, stopped-is, left-is, ticked-is, without-is}
 use Rattle.wheel.proofs.Promise.{start-hangs, stop-hangs, left-hung, tick-hangs, ids-due}
@@ -45,10 +44,3 @@ pub rest-promise : (d : Due) → d .ids < 4294967296 → (r : Due) → r ≡ low
 rest-promise d f r q =
     let e : r ≡ withoutFirst d = q ∙ sym (without-is d) in
     (e, ap idsOf e ∙ rest-ids d f)
-
--- two wheels are one if their tables and their positions are
-pub wheels : Decides sameTables
-unfolding sameTables
-wheels = through (λ (x : Wheel). (x .spokes, (x .turns, (x .spoke, x .position))))
-    (λ x y e i. record { spokes = e i .0; turns = e i .1 .0; spoke = e i .1 .1 .0; position = e i .1 .1 .1 })
-    (pairs (lists numbers) (pairs (lists numbers) (pairs (lists numbers) numbers)))

@@ -9,3 +9,4 @@ mod Ticking
 mod Dues
 mod Laws
 mod Filling
+mod Same

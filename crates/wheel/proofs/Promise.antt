@@ -1,25 +1,29 @@
 -- The wheel's promise, as laws of the names of specs/Promise.antt: what start, stop, a tick and the ticks left come to on a wheel that hangs as ticks
--- left say, who comes due and in which order, that good ticks left stay good, and that a wheel and its ticks left determine each other.
+-- left say, who comes due and in which order, that good ticks left stay good, and when two wheels are one.
 -- Whoever uses the wheel cites these and nothing else of its proofs.
 -- Assumes nothing.
 use Prim.Native.Nat.{ℕ, suc, _-_, _%_, _<_, _≤_}
 use mathlib.Core.Path.{_≡_, sym, ap, _∙_}
+use mathlib.Core.Logic.{_↔_}
+use mathlib.Core.Bool.{true}
 use mathlib.Core.List.{List}
 use native.Mathlib.Omega.{arith}
 use lib.ListN.{length, getD}
 use lib.Seq.{ext-getD}
 use lib.Dec.{eqb}
 use Rattle.laws.specs.Bits.{holds, members-word, among-length}
+use Rattle.laws.specs.Same.{exactly}
 use Rattle.wheel.specs.declared.Wheel.{Wheel}
 use Rattle.wheel.specs.declared.Due.{Due}
 use Rattle.wheel.specs.Hung.{Hung, Good, left, empty, started, stopped, ticked, due, filled, spokeOf, turnsOf}
 use Rattle.wheel.specs.Inside.{lastTick, hungIn, takenIn, wayIn, turnedIn}
-use Rattle.wheel.specs.Promise.{wheelOf, startedIn, stoppedIn, leftIn, tickedIn, tickedOf, positionIn, spokeIn, turnsIn, idsOf, dueOf}
-use Rattle.wheel.specs.Promise.Opened.{wheel-is, started-is, stopped-is, left-is, ticked-is, position-is, spoke-is, turns-are, ids-are, due-is}
+use Rattle.wheel.specs.Promise.{wheelOf, startedIn, stoppedIn, leftIn, tickedIn, tickedOf, positionIn, sameWheel, spokeIn, turnsIn, idsOf, dueOf}
+use Rattle.wheel.specs.Promise.Opened.{wheel-is, started-is, stopped-is, left-is, ticked-is, position-is, same-is, spoke-is, turns-are, ids-are, due-is}
 use Rattle.wheel.proofs.Lefts as lefts
 use Rattle.wheel.proofs.Hanging.{start-inside, stop-inside, left-inside, position-at, spoke-at, turns-at}
 use Rattle.wheel.proofs.Ticking.{tick-inside}
 use Rattle.wheel.proofs.Filling as filling
+use Rattle.wheel.proofs.Same.{wheels}
 
 -- ---- ticks left
 
@@ -93,7 +97,11 @@ ids-due h = ids-are (dueOf h) ∙ rw (due-is h) (members-word 32 (λ i. eqb (lef
 pub ids-few : (d : Due) → length (idsOf d) ≤ 32
 ids-few d = rw (ids-are d) (among-length 32 (λ i. holds i (d .ids)))
 
--- ---- a wheel and its ticks left determine each other
+-- ---- when two wheels are one
+
+-- the test tells
+pub same-exactly : (w v : Wheel) → (sameWheel w v ≡ true) ↔ (w ≡ v)
+same-exactly w v = exactly wheels w v (sameWheel w v) (same-is w v)
 
 -- a good wheel tells its position and its ticks left
 told : (h k : Hung) → Good h → Good k → positionIn (wheelOf h) ≡ positionIn (wheelOf k)

@@ -4,6 +4,7 @@
 -- Assumes nothing.
 pub mod Opened
 use Prim.Native.Nat.{ℕ}
+use mathlib.Core.Bool.{Bool}
 use mathlib.Core.List.{List, [], _∷_}
 use lib.ListN.{getD}
 use Rattle.laws.specs.Bits.{members}
@@ -11,7 +12,7 @@ use Rattle.wheel.specs.declared.Wheel.{Wheel}
 use Rattle.wheel.specs.declared.Due.{Due}
 use Rattle.wheel.specs.declared.Ticked.{Ticked}
 use Rattle.wheel.specs.Hung.{Hung, ticked, onNext}
-use Rattle.wheel.specs.Inside.{tablesOf, lastTick, hungIn, takenIn, wayIn, turnedIn, lowestOff}
+use Rattle.wheel.specs.Inside.{tablesOf, lastTick, hungIn, takenIn, wayIn, turnedIn, lowestOff, sameTables}
 
 -- ---- the wheel
 
@@ -38,6 +39,10 @@ tickedIn w = turnedIn w
 -- the position
 pub positionIn : Wheel → ℕ
 positionIn w = w .position
+
+-- whether two wheels are the same
+pub sameWheel : Wheel → Wheel → Bool
+sameWheel w v = sameTables w v
 
 -- the spoke of a timer
 pub spokeIn : Wheel → ℕ → ℕ

@@ -8,7 +8,6 @@ use native.Mathlib.Omega.{arith}
 use lib.ListN.{length, getD, length-append}
 use lib.Seq.{sets}
 use Rattle.laws.specs.Lists.{tabulate, length-tabulate, tabulate-same}
-use Rattle.rules.specs.Page as rules
 use Rattle.saved.specs.Record.{word, packed, headerBytes, headerOf, threadBytes, mutexBytes, tieBytes, timerBytes, recordOf}
 use Rattle.saved.proofs.Reading.{length-header, length-record}
 use Rattle.page.specs.declared.Page.{Page}
@@ -40,10 +39,10 @@ header-stored b x e₁ e₂ e₃ e₄ e₅ e₆ =
 
 -- its first four bytes, then the others
 pub timer-stored : {b₁ b₂ : List ℕ} (b : List ℕ) (at : ℕ) (row : TimerRow)
-    → b₁ ≡ sets b at (row .state ∷ row .condition ∷ word (row .length))
-    → b₂ ≡ sets b₁ (at + 4) (word (row .left) ++ word 0)
+    → b₁ ≡ sets b at (row .state ∷ row .condition ∷ word (row .length .0))
+    → b₂ ≡ sets b₁ (at + 4) (word (row .left .0) ++ word 0)
     → b₂ ≡ sets b at (timerBytes (timerSaid row))
-timer-stored {b₁} {b₂} b at row e f = then b b₁ b₂ at (at + 4) (row .state ∷ row .condition ∷ word (row .length)) (word (row .left) ++ word 0) e f refl
+timer-stored {b₁} {b₂} b at row e f = then b b₁ b₂ at (at + 4) (row .state ∷ row .condition ∷ word (row .length .0)) (word (row .left .0) ++ word 0) e f refl
 
 -- ---- the whole record
 

@@ -143,10 +143,10 @@ fn put_timer(buffer: &mut [u8], at: u16, i: u8, row: TimerRow)
     ensures { λ _. ⌜ now (buffer .exit) ≡ sets (now (buffer .entry)) (at + 8 * i) (timerBytes (timerSaid row)) ⌝ }
 {
     let place = at as u32 + 8 * (i as u32);
-    let low = (row.length % 256) as u8;
-    let high = (row.length / 256) as u8;
+    let low = (row.length.0 % 256) as u8;
+    let high = (row.length.0 / 256) as u8;
     put_four(buffer, place, row.state, row.condition, low, high);
-    put_words(buffer, place + 4, row.left, 0);
+    put_words(buffer, place + 4, row.left.0, 0);
 }
 
 // The table of timers.

@@ -1,5 +1,4 @@
 -- `same` meets its contract: each test by its own, and the law that the test of engines decides. Assumes nothing.
-use Rattle.alike.specs.Tests.{sameEngine}
 use Rattle.alike.proofs.Deciding.{same-exactly}
 use borrow.Author.Needs.{needs}
 use Rattle.alike.proofs.same.Statement.{statement}
@@ -11,8 +10,8 @@ same-scheduler-requires c κs = search needs
 same-timers-requires : tie.Need-same-timers-requires
 same-timers-requires c κs = search needs
 
-same-wheel-requires : tie.Need-same-wheel-requires
-same-wheel-requires c κs = search needs
+same-requires : tie.Need-same-requires
+same-requires c κs = search needs
 
 same-counts-requires : tie.Need-same-counts-requires
 same-counts-requires c κs = search needs
@@ -28,8 +27,8 @@ both-requires-3 c κs = search needs
 
 returns : tie.Need-returns
 returns c =
-    same-exactly _ _ _
-    (unfold sameEngine in (rw (c .both3 .ensures, c .before .both2 .ensures, c .before .before .both .ensures, c .before .before .before .same-counts .ensures, c .before .before .before .before .same-wheel .ensures, c .before .before .before .before .before .same-timers .ensures, c .before .before .before .before .before .before .before .before .same-scheduler .ensures)))
+    same-exactly _ _ _ (c .before .before .before .before .same .ensures) _
+    (rw (c .both3 .ensures, c .before .both2 .ensures, c .before .before .both .ensures, c .before .before .before .same-counts .ensures, c .before .before .before .before .before .before .same-timers .ensures, c .before .before .before .before .before .before .before .before .before .same-scheduler .ensures))
 
 pub same-spec : {M : Type 1} → statement M
 same-spec =
@@ -37,7 +36,7 @@ same-spec =
     (tie.spec
     same-scheduler-requires
     same-timers-requires
-    same-wheel-requires
+    same-requires
     same-counts-requires
     both-requires
     both-requires-2

@@ -5,7 +5,7 @@ use borrow.Author.Needs.{needs}
 use borrow.Author.Tests.{not-true, not-false}
 use Rattle.queue.proofs.Cases.{cases}
 use Rattle.alike.specs.Tests.{sameQueue}
-use Rattle.alike.proofs.Comparing.{Comparing, compare-none, compare-differs, compare-next, compare-all}
+use Rattle.laws.specs.Same.{Comparing, compare-none, compare-differs, compare-next, compare-all}
 use Rattle.alike.proofs.same_levels.Statement.{statement}
 use Rattle.alike.proofs.same_levels.Tie as tie
 

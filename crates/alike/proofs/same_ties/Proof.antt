@@ -4,7 +4,7 @@ use lib.Dec.{eqb}
 use borrow.Author.Tests.{eq-eqb, ne-eqb}
 use borrow.Author.Needs.{needs}
 use Rattle.queue.proofs.Cases.{cases}
-use Rattle.alike.proofs.Comparing.{Comparing, compare-none, compare-differs, compare-next, compare-all}
+use Rattle.laws.specs.Same.{Comparing, compare-none, compare-differs, compare-next, compare-all}
 use Rattle.alike.proofs.same_ties.Statement.{statement}
 use Rattle.alike.proofs.same_ties.Tie as tie
 

@@ -47,7 +47,7 @@ loop-less c = search needs
 loop-again : tie.Need-loop-again Inv-loop μ-loop
 loop-again c =
     let l = c .before .before .before .loop in
-    going-turns 32 _ _ _ _ _ _ (λ w. startedIn w (l .id) (getD (c .before .before .before .before .before .before .args .t1) (l .id) noTimerRow .left)) (l .inv) (c .before .before .loop-test .taken) (c .start .ensures .0) (unfold hungBelow in refl)
+    going-turns 32 _ _ _ _ _ _ (λ w. startedIn w (l .id) (getD (c .before .before .before .before .before .before .args .t1) (l .id) noTimerRow .left .0)) (l .inv) (c .before .before .loop-test .taken) (c .start .ensures .0) (unfold hungBelow in refl)
 
 returns : tie.Need-returns Inv-loop μ-loop
 returns c = going-ends 32 _ _ _ _ _ (c .before .loop .inv) (c .loop-test .left)

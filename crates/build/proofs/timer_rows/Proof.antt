@@ -43,7 +43,7 @@ loop-less : tie.Need-loop-less Inv-loop μ-loop
 loop-less c = search needs
 
 loop-again : tie.Need-loop-again Inv-loop μ-loop
-loop-again c = filling-turns 32 _ stoppedRow _ _ _ _ (c .before .before .loop .inv) (c .before .loop-test .taken)
+loop-again c = filling-turns 32 _ stoppedRow _ _ _ _ (c .before .before .before .loop .inv) (c .before .before .loop-test .taken)
 
 returns : tie.Need-returns Inv-loop μ-loop
 unfolding timerRows

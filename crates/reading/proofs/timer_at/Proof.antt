@@ -1,4 +1,5 @@
 -- `timer_at` meets its contract: two bytes and two words. Assumes nothing.
+use Rattle.units.specs.Units.{inTicks}
 use borrow.Author.Needs.{needs}
 use Rattle.reading.proofs.timer_at.Statement.{statement}
 use Rattle.reading.proofs.timer_at.Tie as tie
@@ -34,7 +35,7 @@ word-at-requires-2 : tie.Need-word-at-requires-2
 word-at-requires-2 c κs = search needs
 
 returns : tie.Need-returns
-returns c = λ i. record { state = c .before .before .before .byte-at .ensures i; condition = c .before .before .byte-at2 .ensures i; length = c .before .word-at .ensures i; left = c .word-at2 .ensures i }
+returns c = λ i. record { state = c .before .before .before .byte-at .ensures i; condition = c .before .before .byte-at2 .ensures i; length = inTicks (c .before .word-at .ensures i); left = inTicks (c .word-at2 .ensures i) }
 
 pub timer-at-spec : {M : Type 1} → statement M
 timer-at-spec =

@@ -1,10 +1,7 @@
--- `start_timer` meets its contract: by its verdict, and each call by its own. Assumes nothing.
-use mathlib.Core.Path.{ap, _∙_}
-use Rattle.wheel.specs.Promise.{startedIn}
-use Rattle.verdicts.specs.Models.{firstOf}
-use Rattle.engine.specs.Models.{startTimerModel, withTimer}
+-- `start_timer` meets its contract: by the length of the delay and the verdict, and each call by its own. Assumes nothing.
+use Rattle.engine.specs.Models.{withTimer}
 use Rattle.plain.specs.Standing.{engineIn}
-use Rattle.plain.proofs.Judging.{refused, accepted}
+use Rattle.timed.proofs.Starting.{start-out-of-range, start-refused, start-done}
 use borrow.Author.Needs.{needs}
 use Rattle.timed.proofs.start_timer.Statement.{statement}
 use Rattle.timed.proofs.start_timer.Tie as tie
@@ -21,35 +18,53 @@ element-copy-out-row c = search needs
 ids-verdict-requires : tie.Need-ids-verdict-requires
 ids-verdict-requires c κs = search needs
 
-delay-verdict-requires : tie.Need-delay-verdict-requires
-delay-verdict-requires c κs = search needs
+ticks-of-requires : tie.Need-ticks-of-requires
+ticks-of-requires c κs = search needs
+
+enum-known-length : tie.Need-enum-known-length
+enum-known-length c = search needs
+
+enum-told : tie.Need-enum-told
+enum-told c = search needs
 
 first-of-requires : tie.Need-first-of-requires
 first-of-requires c κs = search needs
-
-number-requires : tie.Need-number-requires
-number-requires c κs = search needs
 
 refuse-requires : tie.Need-refuse-requires
 refuse-requires c κs = search needs
 
 returns : tie.Need-returns
-unfolding startTimerModel
 returns c =
     let a = c .before .before .before .before .before .before .before .before .args in
     let x = engineIn (a .cells .now) (a .t2) (a .counts) in
-    refused x 255 _ _ _ (c .before .before .before .number .ensures)
-    (c .before .before .before .before .first-of .ensures ∙ (λ i. firstOf (c .before .before .before .before .before .before .ids-verdict .ensures i) (c .before .before .before .before .before .delay-verdict .ensures i)))
-    _ _ (c .refuse .ensures) (c .before .before .if1 .taken)
+    start-out-of-range x (a .id) (a .c) (a .kind) (a .v) _ _ _ (c .before .before .before .before .before .before .ids-verdict .ensures) (c .before .before .before .before .before .ticks-of .ensures) _
+    (c .before .before .before .enum-told .given .1) (c .before .before .first-of .ensures) (c .refuse .ensures)
 
-length-of-requires : tie.Need-length-of-requires
-length-of-requires c κs = search needs
+start-timer-verdict-requires : tie.Need-start-timer-verdict-requires
+start-timer-verdict-requires c κs = search needs
+
+first-of-requires-2 : tie.Need-first-of-requires-2
+first-of-requires-2 c κs = search needs
+
+number-requires : tie.Need-number-requires
+number-requires c κs = search needs
+
+refuse-requires-2 : tie.Need-refuse-requires-2
+refuse-requires-2 c κs = search needs
+
+returns-2 : tie.Need-returns-2
+returns-2 c =
+    let a = c .before .before .before .before .before .before .before .before .before .before .before .before .args in
+    let x = engineIn (a .cells .now) (a .t2) (a .counts) in
+    start-refused x (a .id) (a .c) (a .kind) (a .v) _ _ _ (c .before .before .before .before .before .before .before .before .before .before .ids-verdict .ensures) (c .before .before .before .before .before .before .before .before .before .ticks-of .ensures)
+    _ _ _ (c .before .before .before .before .before .before .before .length .given .1) (c .before .before .before .before .before .start-timer-verdict .ensures) (c .before .before .before .before .first-of2 .ensures) (c .before .before .before .number .ensures)
+    _ (c .refuse2 .ensures) (c .before .before .if1 .taken)
 
 state-of-requires : tie.Need-state-of-requires
 state-of-requires c κs = search needs
 
-mul-t22 : tie.Need-mul-t22
-mul-t22 c = search needs
+mul-t24 : tie.Need-mul-t24
+mul-t24 c = search needs
 
 element-set-from-clock : tie.Need-element-set-from-clock
 element-set-from-clock c = search needs
@@ -60,18 +75,16 @@ start-requires c κs = search needs
 finish-requires : tie.Need-finish-requires
 finish-requires c κs = search needs
 
-returns-2 : tie.Need-returns-2
-unfolding startTimerModel
-returns-2 c =
-    let a = c .before .before .before .before .before .before .before .before .before .before .before .before .args in
+returns-3 : tie.Need-returns-3
+returns-3 c =
+    let a = c .before .before .before .before .before .before .before .before .before .before .before .before .before .before .before .args in
     let x = engineIn (a .cells .now) (a .t2) (a .counts) in
-    let length = c .before .before .before .before .before .length-of .ensures in
-    let wheel = c .before .before .start .ensures .0 ∙ ap (startedIn (a .t2 .wheel) (a .id)) length in
-    accepted x 255 _ _ _ (c .before .before .before .before .before .before .before .number .ensures)
-    (c .before .before .before .before .before .before .before .before .first-of .ensures ∙ (λ i. firstOf (c .before .before .before .before .before .before .before .before .before .before .ids-verdict .ensures i) (c .before .before .before .before .before .before .before .before .before .delay-verdict .ensures i)))
-    _ _ _ (c .finish .ensures _)
-    (λ i. withTimer x (a .id) (record { state = c .before .before .before .before .state-of .ensures i; condition = a .c; length = length i }) (wheel i))
-    (c .before .before .before .before .before .before .if1 .left)
+    let state = c .before .before .before .before .state-of .ensures in
+    let length = c .before .before .before .before .before .before .before .before .before .before .length .given .0 .0 in
+    let wheel = c .before .before .start .ensures .0 in
+    start-done x (a .id) (a .c) (a .kind) (a .v) _ _ _ (c .before .before .before .before .before .before .before .before .before .before .before .before .before .ids-verdict .ensures) (c .before .before .before .before .before .before .before .before .before .before .before .before .ticks-of .ensures)
+    _ _ _ (c .before .before .before .before .before .before .before .before .before .before .length .given .1) (c .before .before .before .before .before .before .before .before .start-timer-verdict .ensures) (c .before .before .before .before .before .before .before .first-of2 .ensures) (c .before .before .before .before .before .before .number .ensures)
+    _ _ (c .finish .ensures _) (λ i. withTimer x (a .id) (record { state = state i; condition = a .c; length = length }) (wheel i)) (c .before .before .before .before .before .if1 .left)
 
 pub start-timer-spec : {M : Type 1} → statement M
 start-timer-spec =
@@ -81,15 +94,20 @@ start-timer-spec =
     mul-row
     element-copy-out-row
     ids-verdict-requires
-    delay-verdict-requires
+    ticks-of-requires
+    enum-known-length
+    enum-told
     first-of-requires
-    number-requires
     refuse-requires
     returns
-    length-of-requires
+    start-timer-verdict-requires
+    first-of-requires-2
+    number-requires
+    refuse-requires-2
+    returns-2
     state-of-requires
-    mul-t22
+    mul-t24
     element-set-from-clock
     start-requires
     finish-requires
-    returns-2)
+    returns-3)

@@ -7,8 +7,8 @@ use Rattle.laws.specs.Bits.{members}
 use Rattle.wheel.specs.declared.Wheel.{Wheel}
 use Rattle.wheel.specs.declared.Due.{Due}
 use Rattle.wheel.specs.Hung.{Hung}
-use Rattle.wheel.specs.Inside.{tablesOf, lastTick, hungIn, takenIn, wayIn, turnedIn, lowestOff}
-use Rattle.wheel.specs.Promise.{wheelOf, startedIn, stoppedIn, leftIn, tickedIn, positionIn, spokeIn, turnsIn, idsOf, withoutFirst, dueOf}
+use Rattle.wheel.specs.Inside.{tablesOf, lastTick, hungIn, takenIn, wayIn, turnedIn, lowestOff, sameTables}
+use Rattle.wheel.specs.Promise.{wheelOf, startedIn, stoppedIn, leftIn, tickedIn, positionIn, sameWheel, spokeIn, turnsIn, idsOf, withoutFirst, dueOf}
 
 -- of the wheel
 pub wheel-is : (h : Hung) → wheelOf h ≡ tablesOf h
@@ -35,6 +35,10 @@ module _ (w : Wheel) where
   pub position-is : positionIn w ≡ w .position
   unfolding positionIn
   position-is = refl
+
+  pub same-is : (v : Wheel) → sameWheel w v ≡ sameTables w v
+  unfolding sameWheel
+  same-is v = refl
 
   pub spoke-is : (i : ℕ) → spokeIn w i ≡ getD (w .spoke) i 0
   unfolding spokeIn

@@ -1,7 +1,7 @@
 -- `wheel::Wheel::same` meets its contract: each table by its own test, and the tests decide. Assumes nothing.
 use Rattle.laws.specs.Same.{exactly}
 use Rattle.wheel.specs.Inside.{sameTables}
-use Rattle.wheel.proofs.Laws.{wheels}
+use Rattle.wheel.proofs.Same.{wheels}
 use borrow.Author.Needs.{needs}
 use Rattle.wheel.proofs.Wheel.same.Statement.{statement}
 use Rattle.wheel.proofs.Wheel.same.Tie as tie
