@@ -8,12 +8,9 @@ use mathlib.Core.List.{List, [], _∷_, _++_}
 use native.Mathlib.Omega.{arith}
 use lib.ListN.{length, drop}
 use Rattle.calls.specs.declared.Answer.{Answer}
-use Rattle.calls.specs.declared.Decoded.{Decoded}
-use Rattle.calls.specs.declared.Decoded.the-variants.{Taken, WrongForm}
 use Rattle.calls.specs.declared.Verdict.{Verdict}
 use Rattle.calls.specs.declared.Verdict.the-variants.{Done, NotSound, Stopped, AlreadyStarted, NoSuchId, IdleCaller, OutOfRange, TableFull, AboveCeiling, NotOwner, CountFull, HoldingMore, TiedElsewhere, TimerRunning, TimerStopped, WrongRecord, BufferShort, WrongRow}
 use Rattle.calls.specs.Answers.{numberOf}
-use Rattle.calls.specs.Rows.{decoded}
 use Rattle.rules.specs.State.{State, boot}
 use Rattle.rules.specs.Sound.{sound}
 use Rattle.rules.specs.Step.{stepRow}
@@ -26,18 +23,15 @@ use Rattle.saved.specs.Loading.{load, saved}
 use Rattle.saved.proofs.Loading.{loaded-is-sound, save-done}
 use Rattle.saved.specs.Demand.{EqualBytes}
 use Rattle.saved.proofs.Demand.{demand-3-records, demand-3-records-from-boot}
-use Rattle.engine.specs.Models.{stepModel}
-use Rattle.engine.specs.Stands as engine
 use Rattle.engine.specs.Stands.{engineOf}
-use Rattle.engine.proofs.Steps.{step-promise}
-use Rattle.rows.specs.Rows.{rowModel}
-use Rattle.rows.proofs.Meaning.{wrong-promise, taken-promise}
+use Rattle.lines.specs.Inner.{innerAnswers, innerFinal}
+use Rattle.lines.proofs.Inner.{inner-rows-step, rows-keep}
 use Rattle.kernel.specs.declared.Kernel.{Kernel}
 use Rattle.kernel.specs.declared.Stepped.{Stepped}
 use Rattle.kernel.specs.Kernels.{kernelOf, steppedOf}
 use Rattle.record.specs.declared.Loaded.{Loaded}
 use Rattle.record.specs.Records.{loadedOf, savedOf}
-use Rattle.demand.specs.Repeated.{Repeats, innerAnswers, innerFinal, SavesRecord, Agrees}
+use Rattle.demand.specs.Repeated.{Repeats, SavesRecord, Agrees}
 
 -- ---- any number of rows
 
@@ -51,25 +45,6 @@ rows-step s e x d (row ∷ rows) answers y w =
     let others = rows-step (stepRow s row .state) (row-keeps s row e) (w .0 .kernel) (ap (λ (r : Stepped). r .kernel) one) rows (w .1) y (w .4) in
     (w .3 ∙ ap₂ (λ (r : Stepped) rest. r .answer ∷ rest) one (others .0), others .1)
 
--- a row of the engine that describes a sound state is document 01's row
-row-steps : (s : State) → sound s ≡ true → (row : List ℕ) → rowModel (engineOf s) row ≡ engine.steppedOf (stepRow s row)
-row-steps s e row = by (decoded row) refl
-  where
-    by : (d : Decoded) → decoded row ≡ d → rowModel (engineOf s) row ≡ engine.steppedOf (stepRow s row)
-    by WrongForm w = let p = wrong-promise (engineOf s) row _ w refl in sym (p .0) ∙ p .1 s e refl
-    by (Taken call) w = let p = taken-promise (engineOf s) row (stepModel (engineOf s) call) w (step-promise (engineOf s) call _ refl) in sym (p .0) ∙ p .1 s e refl
-
--- the inner step repeated gives it too
-pub inner-rows-step : (s : State) → sound s ≡ true → (rows : List (List ℕ)) → (innerAnswers (engineOf s) rows ≡ answersOf s rows) × (innerFinal (engineOf s) rows ≡ engineOf (finalOf s rows))
-unfolding innerAnswers innerFinal answersOf finalOf
-inner-rows-step s e [] = (refl, refl)
-inner-rows-step s e (row ∷ rows) =
-    let one = row-steps s e row in
-    let others = inner-rows-step (stepRow s row .state) (row-keeps s row e) rows in (
-      ap (λ r. r .answer ∷ innerAnswers (r .engine) rows) one ∙ ap (λ rest. stepRow s row .answer ∷ rest) (others .0),
-      ap (λ r. innerFinal (r .engine) rows) one ∙ others .1,
-    )
-
 -- so after one test of soundness the inner step repeated is the public step repeated
 pub inner-is-public : (s : State) → sound s ≡ true → (rows : List (List ℕ)) (answers : List Answer) (y : Kernel) → Repeats (kernelOf s) rows answers y
     → (answers ≡ innerAnswers (engineOf s) rows) × (y ≡ record { engine = innerFinal (engineOf s) rows })
@@ -77,12 +52,6 @@ inner-is-public s e rows answers y w =
     let public = rows-step s e (kernelOf s) refl rows answers y w in
     let inner = inner-rows-step s e rows in
     (public .0 ∙ sym (inner .0), public .1 ∙ (λ i. record { engine = sym (inner .1) i }))
-
--- soundness is kept through any number of rows
-pub rows-keep : (s : State) → sound s ≡ true → (rows : List (List ℕ)) → sound (finalOf s rows) ≡ true
-unfolding finalOf
-rows-keep s e [] = e
-rows-keep s e (row ∷ rows) = rows-keep (stepRow s row .state) (row-keeps s row e) rows
 
 -- ---- saving
 
@@ -108,7 +77,7 @@ apart : {n : ℕ} → suc n ≡ 0 → ⊥
 apart e = omega (arith, e)
 
 -- of the document's numbers 0 is done
-zero-is-done : (v : Verdict) → numberOf v ≡ 0 → v ≡ Done
+pub zero-is-done : (v : Verdict) → numberOf v ≡ 0 → v ≡ Done
 zero-is-done Done e = refl
 zero-is-done NotSound e = absurd (apart e)
 zero-is-done Stopped e = absurd (apart e)

@@ -10,8 +10,6 @@ use Rattle.book.specs.Book.{Book}
 use Rattle.book.specs.Turns.{bookAnswers, bookFinal}
 use Rattle.book.specs.Shown.{show}
 use Rattle.saved.specs.Record.{recordOf}
-use Rattle.engine.specs.declared.Engine.{Engine}
-use Rattle.rows.specs.Rows.{rowModel}
 use Rattle.kernel.specs.declared.Kernel.{Kernel}
 use Rattle.kernel.specs.declared.Stepped.{Stepped}
 use Rattle.kernel.specs.Kernels.{Steps}
@@ -25,18 +23,6 @@ abbrev pub Repeats : Kernel → List (List ℕ) → List Answer → Kernel → T
 Repeats x [] answers y = (answers ≡ []) × (y ≡ x)
 Repeats x (row ∷ rows) answers y =
     (r : Stepped) × (others : List Answer) × Steps x (decoded row) r × (answers ≡ r .answer ∷ others) × Repeats (r .kernel) rows others y
-
--- ---- the inner step repeated, without a test of soundness
-
--- one answer for each row, in order
-unfoldable pub innerAnswers : Engine → List (List ℕ) → List Answer
-innerAnswers x [] = []
-innerAnswers x (row ∷ rows) = rowModel x row .answer ∷ innerAnswers (rowModel x row .engine) rows
-
--- the engine after the last row
-unfoldable pub innerFinal : Engine → List (List ℕ) → Engine
-innerFinal x [] = x
-innerFinal x (row ∷ rows) = innerFinal (rowModel x row .engine) rows
 
 -- ---- demand 3
 
