@@ -55,3 +55,20 @@ runEnd start bytes buffer =
     cond (taken start)
     (save (stateAfter (begun start .state) bytes) buffer)
     (refusedSave (begun start .answer) buffer)
+
+-- ---- a run, whole, as document 01 shows it
+
+-- rows 02 04 00 00 00 00 00 00, then 01 and seven zeros, then 0D and seven zeros
+abbrev pub shownCalls : List ℕ
+shownCalls =
+    2 ∷ 4 ∷ 0 ∷ 0 ∷ 0 ∷ 0 ∷ 0 ∷ 0
+    ∷ 1 ∷ 0 ∷ 0 ∷ 0 ∷ 0 ∷ 0 ∷ 0 ∷ 0
+    ∷ 13 ∷ 0 ∷ 0 ∷ 0 ∷ 0 ∷ 0 ∷ 0 ∷ 0 ∷ []
+
+-- `line answer given running`, `1 0 1 255`, `2 0 255 1` and `3 0 0 1`, each with a line feed
+abbrev pub shownText : List ℕ
+shownText =
+    108 ∷ 105 ∷ 110 ∷ 101 ∷ 32 ∷ 97 ∷ 110 ∷ 115 ∷ 119 ∷ 101 ∷ 114 ∷ 32 ∷ 103 ∷ 105 ∷ 118 ∷ 101 ∷ 110 ∷ 32 ∷ 114 ∷ 117 ∷ 110 ∷ 110 ∷ 105 ∷ 110 ∷ 103 ∷ 10
+    ∷ 49 ∷ 32 ∷ 48 ∷ 32 ∷ 49 ∷ 32 ∷ 50 ∷ 53 ∷ 53 ∷ 10
+    ∷ 50 ∷ 32 ∷ 48 ∷ 32 ∷ 50 ∷ 53 ∷ 53 ∷ 32 ∷ 49 ∷ 10
+    ∷ 51 ∷ 32 ∷ 48 ∷ 32 ∷ 48 ∷ 32 ∷ 49 ∷ 10 ∷ []
