@@ -19,7 +19,6 @@ from edits import TOP, Wrong, wrongs
 
 PAGE = TOP / "docs" / "PROMISES.md"
 HEADING = "| Function | Promise | One result by | Rules out |"
-EXCEPTIONS = {"reading::open": "`form`; the page is promised for right form alone, and load reads it then only"}
 OUTSIDE = ("files", "stored")
 OPEN = "open: it speaks to the system, which decides"
 WRONGS: List[Wrong] = list(wrongs())
@@ -103,8 +102,6 @@ def functions_of(crate: str) -> Iterator[Tuple[str, str]]:
 
 def one_result(name: str, promise: str) -> str:
     """By what any two results that a promise allows are equal."""
-    if name in EXCEPTIONS:
-        return EXCEPTIONS[name]
     if name.split("::")[0] in OUTSIDE and "≡" not in promise:
         return OPEN
     for form, theorem in IN_PLACE.items():
