@@ -20,7 +20,6 @@ from shapes import Function, one_result
 
 PAGE = TOP / "docs" / "PROMISES.md"
 HEADING = "| Function | Promise | One result by | Rules out |"
-EXCEPTIONS = {"reading::open": "`form`; the page is promised for right form alone, and load reads it then only"}
 OUTSIDE = ("files", "stored")
 OPEN = "open: it speaks to the system, which decides"
 WRONGS: List[Wrong] = list(wrongs())
@@ -117,8 +116,6 @@ def functions_of(crate: str) -> Iterator[Function]:
 
 def result_by(function: Function, fields: Dict[str, List[str]]) -> str:
     """By what any two results that a promise allows are equal, or why it may leave one open; nothing where it may not."""
-    if function.name in EXCEPTIONS:
-        return EXCEPTIONS[function.name]
     if function.name.split("::")[0] in OUTSIDE and not one_result(function, fields):
         return OPEN
     return one_result(function, fields)
