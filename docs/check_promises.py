@@ -5,7 +5,7 @@
 
 Each name in backticks in the tables before the last has to exist in the crate that is named before it: a definition in specs/, a theorem in proofs/, a
 function in src/, a wrong program in must-fail/, or a file. Each public function of each library has to stand in the last table with its promise as
-the code has it and with at least two wrong programs that the promise rules out, and no other function. Functions of the libraries `files` and `stored` speak to the system, which decides their result where no equation is promised.
+the code has it and with at least two wrong programs that the promise rules out, and no other function. No crate cites more of the wheel than its promise. Functions of the libraries `files` and `stored` speak to the system, which decides their result where no equation is promised.
 """
 
 from __future__ import annotations
@@ -20,7 +20,8 @@ from shapes import Function, one_result
 
 PAGE = TOP / "docs" / "PROMISES.md"
 HEADING = "| Function | Promise | One result by | Rules out |"
-EXCEPTIONS = {"reading::open": "`form`; the page is promised for right form alone, and load reads it then only"}
+# What others may cite of the wheel: its structs, its promise, and how the prover reads the parameters of a call of its functions.
+WHEEL = re.compile(r"Rattle\.wheel\.(specs\.(declared\.\w+(\.the-variants)?|Hung|Promise)|proofs\.(Promise|\w+\.\w+\.Reads))(\.\{| as )")
 OUTSIDE = ("files", "stored")
 OPEN = "open: it speaks to the system, which decides"
 WRONGS: List[Wrong] = list(wrongs())
@@ -117,8 +118,6 @@ def functions_of(crate: str) -> Iterator[Function]:
 
 def result_by(function: Function, fields: Dict[str, List[str]]) -> str:
     """By what any two results that a promise allows are equal, or why it may leave one open; nothing where it may not."""
-    if function.name in EXCEPTIONS:
-        return EXCEPTIONS[function.name]
     if function.name.split("::")[0] in OUTSIDE and not one_result(function, fields):
         return OPEN
     return one_result(function, fields)
@@ -130,6 +129,20 @@ def ruled_out(function: Function, by: str) -> str:
     if not found and by == OPEN:
         return "none"
     return ", ".join(found) if len(found) >= 2 else ""
+
+
+def check_wheel() -> List[Tuple[str, bool]]:
+    """Each line outside the wheel that cites something of it, and whether that belongs to its promise."""
+    results: List[Tuple[str, bool]] = []
+    for crate in crates():
+        if crate == "wheel":
+            continue
+        for file in sorted((TOP / "crates" / crate).rglob("*")):
+            if file.suffix in (".antt", ".rt"):
+                for line in file.read_text(encoding="utf-8").splitlines():
+                    if "Rattle.wheel." in line:
+                        results.append(("%s cites %s" % (file.relative_to(TOP), line), WHEEL.search(line) is not None))
+    return results
 
 
 def table() -> List[str]:
@@ -152,7 +165,7 @@ def main(arguments: List[str]) -> int:
         print("\n".join(table()))
         return 0
     text = PAGE.read_text(encoding="utf-8")
-    results: Dict[str, bool] = dict(check_names(text))
+    results: Dict[str, bool] = dict(check_names(text) + check_wheel())
     held = set(text.splitlines())
     for line in table()[2:]:
         results[line] = line in held and "|  |" not in line

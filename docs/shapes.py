@@ -13,7 +13,7 @@ from typing import Dict, FrozenSet, Iterator, List, Mapping, Optional, Sequence,
 
 RETURNED = "r"
 # A relation that is a record of its own: which of its arguments are results, and the theorem that it allows one of each only.
-RELATIONS: Mapping[str, str] = {"Steps": "steps-once", "Saves": "saves-once"}
+RELATIONS: Mapping[str, str] = {"Steps": "steps-once", "Saves": "saves-once", "Gives": "gives-once", "Ends": "ends-once"}
 # An array that was lent, or is returned, read as what it stands for, and the theorem that one array does so.
 READINGS: Mapping[str, str] = {"schedulerIn": "bytes-once", "signalledIn": "signalled-once", "steppedIn": "stepped-once"}
 # A name for several values as one, which determines each of them.

@@ -83,11 +83,21 @@ pub fn write(output: i32, path: &[u8], bytes: &[u8]) -> bool {
     is_written
 }
 
-// Writes a text to standard output; whether that was done.
-pub fn print(text: Text) -> bool {
+// Writes a text; whether that was done.
+fn write_text(text: Text, output: i32, path: &[u8]) -> bool {
     let bytes = text.bytes;
     let from = text.from % 48;
-    write(STDOUT_FILENO, b"standard output", &bytes[from..])
+    write(output, path, &bytes[from..])
+}
+
+// Writes a text to standard output; whether that was done.
+pub fn print(text: Text) -> bool {
+    write_text(text, STDOUT_FILENO, b"standard output")
+}
+
+// Writes a text to standard error.
+pub fn say(text: Text) {
+    write_text(text, STDERR_FILENO, b"standard error");
 }
 
 // Writes a line to standard error: a path, and what is wrong with it.

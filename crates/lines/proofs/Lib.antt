@@ -1,4 +1,3 @@
+pub mod Inner
 pub mod Turning
 pub mod Order
-pub mod Block
-pub mod Meaning

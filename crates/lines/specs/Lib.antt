@@ -1,2 +1,2 @@
+pub mod Inner
 pub mod Output
-pub mod Ruled

@@ -9,7 +9,7 @@ use lib.ListN.{length, getD, drop, replicate, length-replicate, List·getD-appen
 use lib.Seq.{sets, sets-eq}
 use lib.Dec.{eqb, ltb, leb}
 use borrow.Author.Tests.{eqb-true, leb-true, ltb-false, le-leb, eq-eqb}
-use Rattle.laws.specs.Bools.{and-left, and-right, and-both, nor-right, denied, self, refuted, no-way}
+use Rattle.laws.specs.Bools.{by-cases, and-left, and-right, and-both, nor-right, denied, self, refuted, no-way, cond-true, cond-false}
 use Rattle.laws.specs.Lists.{tabulate}
 use Rattle.rules.specs.Page.{threadFormed, timerFormed, eachRow, pageFormed}
 use Rattle.soundness.proofs.Tests.{AllTrue, all-true, iff, each-at, at-each}
@@ -18,10 +18,11 @@ use Rattle.saved.specs.Record.{AreBytes, byte, wordAt, headerIn, headerOf, reco
 use Rattle.saved.proofs.Reading.{form-written}
 use Rattle.saved.proofs.Writing.{states-formed, written-read}
 use Rattle.page.specs.declared.Page.{Page}
-use Rattle.page.specs.Says.{threadSaid, timerSaid, noThreadRow, noTimerRow, said}
+use Rattle.page.specs.Says.{threadSaid, timerSaid, noThreadRow, noTimerRow, said, pageFor}
 use Rattle.writing.proofs.Whole.{header, total-is}
-use Rattle.reading.specs.Rows.{readModel, fitting, agree, sameBytes}
-use Rattle.reading.proofs.Tables.{read-page}
+use Rattle.reading.specs.declared.Opened.{Opened}
+use Rattle.reading.specs.Rows.{readModel, wrongForm, openModel, fitting, agree, sameBytes}
+use Rattle.reading.proofs.Tables.{read-page, read-blank}
 
 -- ---- the states
 
@@ -103,10 +104,14 @@ module _ (bytes : List ℕ) where
   abbrev readPage : Page
   readPage = readModel bytes (wordAt bytes 0 % 256) (wordAt bytes 2 % 256) (wordAt bytes 4 % 256) (wordAt bytes 6 % 256)
 
-  -- counts that do not fit
-  pub counts-wrong : countsFitting ≡ false → formed bytes ≡ false
+  -- right form has counts that fit
+  counts-right : formed bytes ≡ true → countsFitting ≡ true
   unfolding headerIn
-  counts-wrong e = refuted (formed bytes) (λ f. no-way countsFitting (all-true (rightForm bytes) (unfold formed in f) .1 .0) e)
+  counts-right f = all-true (rightForm bytes) (unfold formed in f) .1 .0
+
+  -- counts that do not fit
+  counts-wrong : countsFitting ≡ false → formed bytes ≡ false
+  counts-wrong e = refuted (formed bytes) (λ f. no-way countsFitting (counts-right f) e)
 
   module _ (e : countsFitting ≡ true) where
     -- what their tests say
@@ -133,9 +138,13 @@ module _ (bytes : List ℕ) where
         λ j. readModel bytes (t j) (m j) (c j) (i j)
 
     -- a buffer of right form holds the page that is read
-    pub page-held : formed bytes ≡ true → said readPage ≡ pageIn bytes
+    page-held : formed bytes ≡ true → said readPage ≡ pageIn bytes
     unfolding headerIn
     page-held f = ap said counts-kept ∙ read-page bytes f (few .0) (few .1) (few .2) (few .3)
+
+    -- and it is the page for what the buffer says
+    page-for : formed bytes ≡ true → readPage ≡ pageFor (pageIn bytes)
+    page-for f = counts-kept ∙ sym (read-blank bytes (wordAt bytes 0) (wordAt bytes 2) (wordAt bytes 4) (wordAt bytes 6) (few .0) (few .1) (few .2) (few .3)) ∙ ap pageFor (ap said (sym counts-kept) ∙ page-held f)
 
     -- the counts of that page fit
     page-fits : AllTrue (countsFit (headerOf (said readPage)))
@@ -161,21 +170,54 @@ module _ (bytes : List ℕ) where
 
 -- ---- what `open` hands back
 
+module _ (bytes : List ℕ) where
+  -- by the form
+  model-wrong : formed bytes ≡ false → openModel bytes ≡ wrongForm
+  unfolding openModel
+  model-wrong f = cond-false (formed bytes) (record { formed = true; page = pageFor (pageIn bytes) }) wrongForm f
+
+  model-right : formed bytes ≡ true → openModel bytes ≡ record { formed = true; page = pageFor (pageIn bytes) }
+  unfolding openModel
+  model-right f = cond-true (formed bytes) (record { formed = true; page = pageFor (pageIn bytes) }) wrongForm f
+
 module _ (bytes : List ℕ) {t m c i : ℕ} {fit : Bool} (et : t ≡ wordAt bytes 0) (em : m ≡ wordAt bytes 2) (ec : c ≡ wordAt bytes 4) (ei : i ≡ wordAt bytes 6) (ef : fit ≡ fitting t m c i) where
   -- the test of the counts
   tested : fit ≡ countsFitting bytes
   tested = ef ∙ (λ j. fitting (et j) (em j) (ec j) (ei j))
 
-  -- counts that do not fit: wrong form, whatever the page
-  pub opened-wrong : (x : Page) → fit ≡ false → (false ≡ formed bytes) × (formed bytes ≡ true → said x ≡ pageIn bytes)
-  opened-wrong x e =
-      let w = counts-wrong bytes (sym tested ∙ e) in
-      (sym w, λ f. no-way (formed bytes) f w)
+  -- counts that do not fit: wrong form
+  pub opened-wrong : (r : Opened) → fit ≡ false → r ≡ wrongForm → r ≡ openModel bytes
+  opened-wrong r e q = q ∙ sym (model-wrong bytes (counts-wrong bytes (sym tested ∙ e)))
 
-  -- counts that fit: the tests decide, and the page is the one that was read
-  pub opened-right : (x : Page) (r : Bool) → fit ≡ true → AreBytes bytes → x ≡ readModel bytes (t % 256) (m % 256) (c % 256) (i % 256) → r ≡ (pageFormed (said x) && sameBytes bytes (recordOf (said x)))
-      → (r ≡ formed bytes) × (formed bytes ≡ true → said x ≡ pageIn bytes)
-  opened-right x r e b ex er =
-      let fits = sym tested ∙ e in
-      let same = ex ∙ (λ j. readModel bytes (et j % 256) (em j % 256) (ec j % 256) (ei j % 256)) in
-      (er ∙ ap (λ y. pageFormed (said y) && sameBytes bytes (recordOf (said y))) same ∙ form-decided bytes fits b, λ f. ap said same ∙ page-held bytes fits f)
+  -- counts that fit: the tests decide, of the page that was read
+  module _ (x : Page) (right : Bool) (e : fit ≡ true) (b : AreBytes bytes) (ex : x ≡ readModel bytes (t % 256) (m % 256) (c % 256) (i % 256)) (er : right ≡ (pageFormed (said x) && sameBytes bytes (recordOf (said x)))) where
+    same : x ≡ readPage bytes
+    same = ex ∙ (λ j. readModel bytes (et j % 256) (em j % 256) (ec j % 256) (ei j % 256))
+
+    decided : right ≡ formed bytes
+    decided = er ∙ ap (λ y. pageFormed (said y) && sameBytes bytes (recordOf (said y))) same ∙ form-decided bytes (sym tested ∙ e) b
+
+    -- wrong form
+    pub opened-unformed : (r : Opened) → right ≡ false → r ≡ wrongForm → r ≡ openModel bytes
+    opened-unformed r f q = q ∙ sym (model-wrong bytes (sym decided ∙ f))
+
+    -- right form
+    pub opened-right : right ≡ true → record { formed = true; page = x } ≡ openModel bytes
+    opened-right f =
+        let right-form = sym decided ∙ f in
+        (λ j. record { formed = true; page = (same ∙ page-for bytes (sym tested ∙ e) right-form) j }) ∙ sym (model-right bytes right-form)
+
+-- ---- what the page then says
+
+module _ (bytes : List ℕ) (r : Opened) (e : r ≡ openModel bytes) where
+  -- whether the buffer is of right form
+  pub told-form : r .formed ≡ formed bytes
+  told-form = ap (λ (o : Opened). o .formed) e ∙ by-cases (formed bytes)
+      (λ f. ap (λ (o : Opened). o .formed) (model-right bytes f) ∙ sym f)
+      (λ f. ap (λ (o : Opened). o .formed) (model-wrong bytes f) ∙ (unfold wrongForm in sym f))
+
+  -- of right form the page says what the buffer does
+  pub told-page : formed bytes ≡ true → said (r .page) ≡ pageIn bytes
+  told-page f =
+      let fits = counts-right bytes f in
+      ap (λ (o : Opened). said (o .page)) (e ∙ model-right bytes f) ∙ ap said (sym (page-for bytes fits f)) ∙ page-held bytes fits f

@@ -1,4 +1,4 @@
--- The page that is read at the places of packed tables is the page that a buffer of right form holds.
+-- The page that is read at the places of packed tables is the page that a buffer of right form holds, and is blank past its counts.
 -- Assumes nothing.
 use Prim.Native.Nat.{ℕ, zero, suc, _+_, _*_, _<_, _≤_}
 use mathlib.Core.Path.{_≡_, refl, sym, ap, ap₂, _∙_}
@@ -9,14 +9,15 @@ use native.Mathlib.Omega.{arith}
 use lib.ListN.{getD, take, drop}
 use lib.Seq.{getD-take, getD-drop, drop-drop}
 use lib.Dec.{eqb, ltb}
-use borrow.Author.Tests.{lt-ltb}
-use Rattle.laws.specs.Lists.{tabulate, getD-tabulate, tabulate-same, tabulate-below}
+use borrow.Author.Tests.{lt-ltb, le-ltb}
+use Rattle.laws.specs.Lists.{tabulate, length-tabulate, getD-tabulate, tabulate-same, tabulate-below}
 use Rattle.rules.specs.State.{noMutex}
 use Rattle.rules.specs.Page.{noRow}
 use Rattle.saved.specs.Record.{byte, wordAt, headerIn, threadIn, mutexIn, tieIn, timerIn, cutRows, pageIn, formed}
 use Rattle.saved.proofs.Writing.{same-header}
-use Rattle.page.specs.Says.{threadSaid, mutexSaid, timerSaid, threadFor, mutexFor, timerFor, noThreadRow, noMutexRow, noTimerRow, stoppedTimerRow, said}
-use Rattle.reading.specs.Rows.{threadAt, mutexAt, timerAt, readModel}
+use Rattle.page.specs.Says.{threadSaid, mutexSaid, timerSaid, threadFor, mutexFor, timerFor, noThreadRow, noMutexRow, noTimerRow, stoppedTimerRow, said, pageFor}
+use Rattle.page.proofs.Says.{forth}
+use Rattle.reading.specs.Rows.{threadAt, mutexAt, timerAt, threadOr, mutexOr, tieOr, timerOr, readModel}
 
 -- the first n rows of a table whose other rows are blank
 first-rows : {A B : Type 0} (size n : ℕ) (f : ℕ → B) (blank none : B) (g : B → A) → n ≤ size
@@ -86,3 +87,19 @@ read-page bytes f ht hm hc hi =
       ties = (first-rows 16 (h .conditions) (λ c. byte bytes (24 + 4 * h .threads + 4 * h .mutexes + 4 * c)) 255 0 (λ x. x) hc ∙ placed bytes tieIn (byte bytes) 4 (λ k. foremost bytes 4 k (omega arith)) (h .conditions) (h .conditionsAt) (24 + 4 * h .threads + 4 * h .mutexes) (ap (λ x. x .conditionsAt) e)) i;
       timers = (first-rows 32 (h .timers) (λ t. timerFor (timerAt bytes (24 + 4 * h .threads + 4 * h .mutexes + 4 * h .conditions + 8 * t))) (timerFor stoppedTimerRow) noTimerRow timerSaid hi ∙ placed bytes timerIn (timerAt bytes) 8 (timer-read bytes) (h .timers) (h .timersAt) (24 + 4 * h .threads + 4 * h .mutexes + 4 * h .conditions) (ap (λ x. x .timersAt) e)) i;
     }
+
+-- the page that is read is the one for what it says: its rows past the counts are blank
+pub read-blank : (bytes : List ℕ) (t m c i : ℕ) → t ≤ 32 → m ≤ 16 → c ≤ 16 → i ≤ 32 → pageFor (said (readModel bytes t m c i)) ≡ readModel bytes t m c i
+unfolding pageFor said readModel
+read-blank bytes t m c i ht hm hc hi = λ j. record {
+  started = eqb (wordAt bytes 18) 1;
+  count = wordAt bytes 20 + 65536 * wordAt bytes 22;
+  threads = length-tabulate t (λ u. threadSaid (getD (tabulate 32 (threadOr bytes 24 t)) u noThreadRow)) j;
+  mutexes = length-tabulate m (λ u. mutexSaid (getD (tabulate 16 (mutexOr bytes (24 + 4 * t) m)) u noMutexRow)) j;
+  conditions = length-tabulate c (λ u. getD (tabulate 16 (tieOr bytes (24 + 4 * t + 4 * m) c)) u 0) j;
+  timers = length-tabulate i (λ u. timerSaid (getD (tabulate 32 (timerOr bytes (24 + 4 * t + 4 * m + 4 * c) i)) u noTimerRow)) j;
+  threadrows = forth 32 t threadFor threadSaid noRow noThreadRow (threadOr bytes 24 t) ht (λ b. refl) (λ u l. rw (le-ltb u t l)) j;
+  mutexrows = forth 16 m mutexFor mutexSaid noMutex noMutexRow (mutexOr bytes (24 + 4 * t) m) hm (λ b. refl) (λ u l. rw (le-ltb u m l)) j;
+  ties = forth 16 c (λ x. x) (λ x. x) 255 0 (tieOr bytes (24 + 4 * t + 4 * m) c) hc (λ b. refl) (λ u l. rw (le-ltb u c l)) j;
+  timerrows = forth 32 i timerFor timerSaid stoppedTimerRow noTimerRow (timerOr bytes (24 + 4 * t + 4 * m + 4 * c) i) hi (λ b. refl) (λ u l. rw (le-ltb u i l)) j;
+}

@@ -1,7 +1,8 @@
--- The page that is read from bytes at the places where packed tables stand, and the tests of right form as the code has them.
+-- What a buffer holds: the page that is read from its bytes at the places where packed tables stand, and the tests of right form as the code
+-- has them.
 -- Assumes nothing.
 use Prim.Native.Nat.{ℕ, _+_, _*_}
-use mathlib.Core.Bool.{Bool, cond, not, _&&_}
+use mathlib.Core.Bool.{Bool, true, false, cond, not, _&&_}
 use mathlib.Core.List.{List, [], _∷_}
 use lib.ListN.{length}
 use lib.Dec.{eqb, ltb, leb}
@@ -16,8 +17,9 @@ use Rattle.scheduler.specs.declared.Mutex.{Mutex}
 use Rattle.page.specs.declared.ThreadRow.{ThreadRow}
 use Rattle.page.specs.declared.TimerRow.{TimerRow}
 use Rattle.page.specs.declared.Page.{Page}
-use Rattle.page.specs.Says.{threadFor, mutexFor, timerFor, stoppedTimerRow}
-use Rattle.saved.specs.Record.{byte, wordAt}
+use Rattle.page.specs.Says.{threadFor, mutexFor, timerFor, stoppedTimerRow, pageFor, emptyPage}
+use Rattle.saved.specs.Record.{byte, wordAt, pageIn, formed}
+use Rattle.reading.specs.declared.Opened.{Opened}
 
 -- ---- rows at a place
 
@@ -65,6 +67,16 @@ readModel bytes t m c i = record {
   ties = tabulate 16 (tieOr bytes (24 + 4 * t + 4 * m) c);
   timerrows = tabulate 32 (timerOr bytes (24 + 4 * t + 4 * m + 4 * c) i);
 }
+
+-- ---- what a buffer holds
+
+-- of wrong form: the page of no row
+unfoldable pub wrongForm : Opened
+wrongForm = record { formed = false; page = pageFor emptyPage }
+
+-- of right form: the page for what it says
+unfoldable pub openModel : List ℕ → Opened
+openModel bytes = cond (formed bytes) (record { formed = true; page = pageFor (pageIn bytes) }) wrongForm
 
 -- ---- tests
 

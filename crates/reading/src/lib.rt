@@ -11,15 +11,15 @@ use writing::total;
 use writing::write;
 ghost use Prim.Native.Nat.{_+_};
 ghost use mathlib.Core.Path.{_≡_};
-ghost use mathlib.Core.Bool.{true, _&&_};
+ghost use mathlib.Core.Bool.{_&&_};
 ghost use lib.ListN.{getD};
 ghost use Rattle.laws.specs.Lists.{tabulate};
 ghost use Rattle.rules.specs.Page.{eachRow, threadFormed, timerFormed, pageFormed};
-ghost use Rattle.saved.specs.Record.{byte, wordAt, recordOf, pageIn, formed};
+ghost use Rattle.saved.specs.Record.{byte, wordAt, recordOf};
 ghost use Rattle.page.specs.Says.{threadSaid, timerSaid, noThreadRow, noTimerRow, said, threadFor, mutexFor, timerFor};
-ghost use Rattle.reading.specs.Rows.{threadAt, mutexAt, timerAt, threadOr, mutexOr, tieOr, timerOr, readModel, fitting, agree, sameBytes};
+ghost use Rattle.reading.specs.Rows.{threadAt, mutexAt, timerAt, threadOr, mutexOr, tieOr, timerOr, readModel, wrongForm, openModel, fitting, agree, sameBytes};
 
-// What a buffer holds: whether it is of right form, and the page; a page of no row where its counts do not fit.
+// What a buffer holds: whether it is of right form, and the page, which has no row where it is of wrong form.
 pub struct Opened {
     pub formed: bool,
     pub page: Page,
@@ -369,10 +369,20 @@ fn counts_fit(threads: u16, mutexes: u16, conditions: u16, timers: u16) -> bool
     timers <= 32
 }
 
+// A buffer of wrong form.
+fn wrong_form() -> Opened
+    ensures { λ r. ⌜ r ≡ wrongForm ⌝ }
+{
+    let page = Page::blank();
+    Opened {
+        formed: false,
+        page,
+    }
+}
+
 // The page that a buffer holds, and whether the buffer is of right form.
 pub fn open(bytes: &[u8]) -> Opened
-    ensures form { λ r. ⌜ r .formed ≡ formed (now (bytes .entry)) ⌝ }
-    ensures page { λ r. ⌜ (formed (now (bytes .entry)) ≡ true → said (r .page) ≡ pageIn (now (bytes .entry))) ⌝ }
+    ensures { λ r. ⌜ r ≡ openModel (now (bytes .entry)) ⌝ }
 {
     let threads = word_at(bytes, 0);
     let mutexes = word_at(bytes, 2);
@@ -380,11 +390,7 @@ pub fn open(bytes: &[u8]) -> Opened
     let timers = word_at(bytes, 6);
     let fit = counts_fit(threads, mutexes, conditions, timers);
     if !fit {
-        let page = Page::blank();
-        return Opened {
-            formed: false,
-            page,
-        };
+        return wrong_form();
     }
     let page = read(
         bytes,
@@ -393,6 +399,9 @@ pub fn open(bytes: &[u8]) -> Opened
         (conditions % 256) as u8,
         (timers % 256) as u8,
     );
-    let formed = is_formed(bytes, page);
-    Opened { formed, page }
+    let right = is_formed(bytes, page);
+    if !right {
+        return wrong_form();
+    }
+    Opened { formed: true, page }
 }

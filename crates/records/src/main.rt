@@ -11,14 +11,14 @@ use files::fill;
 use files::open_input;
 use files::open_output;
 use files::print;
+use files::say;
 use files::within;
 use files::write;
-use kernel::Kernel;
 use libc::STDERR_FILENO;
-use record::load;
-use record::save;
+use runs::save_again;
 use std::num::wrapping_add_u64;
 use text::entry;
+use text::save_refusal;
 ghost use mathlib.Core.Path.{_≡_};
 ghost use Prim.Native.Nat.{_+_, _*_};
 ghost use Rattle.io.specs.Counts.{Counts};
@@ -114,13 +114,16 @@ fn skip(input: i32, path: &[u8], length: usize) -> bool {
     skip_some(input, path, left - 8192)
 }
 
-// Loads a record, prints its line and writes the save of what load handed back; whether that was done.
+// Loads a record and saves what load hands back, prints its line and writes the save; whether that was done. A save that is refused is said.
 fn answer_record(number: u64, bytes: &[u8], output: i32, out: &[u8]) -> bool {
-    let loaded = load(bytes);
-    let kernel = loaded.kernel;
     let mut buffer = [0u8; 1024];
-    let saved = save(kernel, &mut buffer);
-    if !print(entry(number, loaded.answer, saved.length)) {
+    let again = save_again(bytes, &mut buffer);
+    let saved = again.saved;
+    if !print(entry(number, again.answer, saved.length)) {
+        return false;
+    }
+    if saved.answer != 0 {
+        say(save_refusal(saved.answer));
         return false;
     }
     if output < 0 {

@@ -1,11 +1,10 @@
-// Answers the calls of a file: the heading, and one line for each row. Any length is done in fixed memory: 8,192 bytes are read, their rows
-// answered, and their lines written, in turn.
+// Answers the calls of a file: the heading, and one line for each row. Any length is done in fixed memory: 8,192 bytes are read, fed to the run, and
+// its text written, in turn.
 //
 //     run [CALLS]            from boot; the calls of standard input where no file is named
 //     run CALLS START END    from the record in START, or `boot`; the last record goes to END, or nowhere for `-`
 //
-// A START that is refused is said in one line on standard output, and then nothing runs. END is opened when all calls are answered.
-use engine::Engine;
+// Of a START that is refused the text is one line, and END is not written. END is opened when all calls are answered and its record is made.
 use files::argument;
 use files::fill;
 use files::open_input;
@@ -14,97 +13,126 @@ use files::write;
 use libc::STDERR_FILENO;
 use libc::STDIN_FILENO;
 use libc::STDOUT_FILENO;
-use lines::answer_block;
+use runs::Run;
+use stored::record_of;
 use stored::start_named;
 use stored::write_record;
 
-// How far a run has come: the engine, the number of the last line, whether the run has ended, and whether it failed.
-struct Run {
-    engine: Engine,
-    last: u64,
+// How far the work has come: the run, whether its input has ended, and whether something failed.
+struct Work {
+    run: Run,
     ended: bool,
     failed: bool,
 }
 
-// A run that ends here, because of what was said.
-fn stopped(engine: Engine, last: u64) -> Run {
-    Run {
-        engine,
-        last,
+// The work ends here, because of what was said.
+fn stopped(run: Run) -> Work {
+    Work {
+        run,
         ended: true,
         failed: true,
     }
 }
 
-// Reads 8,192 bytes, or what is left, and writes the lines of their rows.
-fn run_some(run: Run, input: i32, path: &[u8]) -> Run {
-    let engine = run.engine;
-    let mut buffer = [0u8; 8192];
-    let filled = fill(input, path, &mut buffer);
+// Writes the first bytes of a run's text; whether that was done.
+fn print_first(output: &[u8]) -> bool {
+    write(STDOUT_FILENO, b"standard output", output)
+}
+
+// Reads 8,192 bytes, or what is left, feeds them to the run and writes its text.
+fn run_some(work: Work, input: i32, path: &[u8]) -> Work {
+    let run = work.run;
+    let mut block = [0u8; 8192];
+    let filled = fill(input, path, &mut block);
     if filled.failed {
-        return stopped(engine, run.last);
+        return stopped(run);
     }
     let held = filled.held;
     let mut output = io::large_buffer();
-    let answered = answer_block(engine, run.last, &buffer, held, &mut output);
-    let after = answered.engine;
-    let lines = answered.lines;
-    let used = lines.used;
-    let is_written = write(STDOUT_FILENO, b"standard output", &output[..used]);
-    Run {
-        engine: after,
-        last: lines.last,
+    let fed = run.feed(&block, held, &mut output);
+    let after = fed.run;
+    let used = fed.used;
+    let is_written = print_first(&output[..used]);
+    Work {
+        run: after,
         ended: !is_written || held < 8192,
         failed: !is_written,
     }
 }
 
+// Closes the run and writes what is left of its text.
+fn close(run: Run) -> Work {
+    let mut output = io::large_buffer();
+    let closed = run.close(&mut output);
+    let after = closed.run;
+    let used = closed.used;
+    let is_written = print_first(&output[..used]);
+    Work {
+        run: after,
+        ended: true,
+        failed: !is_written,
+    }
+}
+
 // A proved loop has to end, and nothing says that an input does. So the loop counts its turns down, from a number that no run uses up.
-fn run_all(engine: Engine, input: i32, path: &[u8]) -> Run {
-    let mut run = Run {
-        engine,
-        last: 0,
+fn run_blocks(run: Run, input: i32, path: &[u8]) -> Work {
+    let mut work = Work {
+        run,
         ended: false,
         failed: false,
     };
     let mut turns = u64::MAX;
-    while turns > 0 && !run.ended {
-        let next = run_some(run, input, path);
-        run = next;
+    while turns > 0 && !work.ended {
+        let next = run_some(work, input, path);
+        work = next;
         turns -= 1;
     }
-    run
+    work
+}
+
+// Runs all calls of an input, and closes the run.
+fn run_all(run: Run, input: i32, path: &[u8]) -> Work {
+    let fed = run_blocks(run, input, path);
+    if fed.failed {
+        return fed;
+    }
+    let all = fed.run;
+    close(all)
 }
 
 // Runs the calls of the file that is named first.
-fn run_file(engine: Engine) -> Run {
+fn run_file(run: Run) -> Work {
     let mut path = io::buffer();
     let word = argument(1, &mut path);
     if !word.whole {
-        return stopped(engine, 0);
+        return stopped(run);
     }
     let length = word.length;
     let input = open_input(&path[..length]);
     if input < 0 {
-        return stopped(engine, 0);
+        return stopped(run);
     }
-    let run = run_all(engine, input, &path[..length]);
+    let work = run_all(run, input, &path[..length]);
     libc::close(input);
-    run
+    work
 }
 
-// Writes the record of an engine into a file; none for `-`.
-fn save_into(engine: Engine, path: &[u8]) {
+// Writes the record of a run into a file, which is opened when the record is made; none for `-`.
+fn save_into(run: Run, path: &[u8]) {
     if path.len() == 1 {
         if path[0] == b'-' {
             return;
         }
     }
+    let record = record_of(run);
+    if !record.ready {
+        return;
+    }
     let output = open_output(path);
     if output < 0 {
         return;
     }
-    write_record(engine, output, path);
+    write_record(record, output, path);
     libc::close(output);
 }
 
@@ -114,29 +142,29 @@ fn run_between() {
     if !start.ready {
         return;
     }
-    let first = start.engine;
-    let run = run_file(first);
-    if run.failed {
+    let first = start.run;
+    let work = run_file(first);
+    let run = work.run;
+    if work.failed || run.answer() != 0 {
         return;
     }
-    let engine = run.engine;
     let mut path = io::buffer();
     let word = argument(3, &mut path);
     if !word.whole {
         return;
     }
     let length = word.length;
-    save_into(engine, &path[..length]);
+    save_into(run, &path[..length]);
 }
 
 fn main() {
     let count = os::arg_count();
     if count < 2 {
-        run_all(Engine::boot(), STDIN_FILENO, b"standard input");
+        run_all(Run::at_boot(), STDIN_FILENO, b"standard input");
         return;
     }
     if count == 2 {
-        run_file(Engine::boot());
+        run_file(Run::at_boot());
         return;
     }
     if count == 4 {

@@ -1,19 +1,23 @@
-// What the programs share: the state that a run begins at, boot's or a saved record's, and a saved record written to a file.
-use engine::Engine;
+// What the programs share: a run begun at the record in a file or at boot, and the record that it ends in, written into a file.
 use files::argument;
 use files::fill;
 use files::open_input;
-use files::print;
+use files::say;
 use files::within;
 use files::write;
-use kernel::Kernel;
-use record::load;
-use record::save;
-use text::refusal;
+use runs::Run;
+use text::save_refusal;
 
-// The state that a run begins at, and whether there is one.
+// A run, and whether there is one: where START cannot be read there is none.
 pub struct Start {
-    pub engine: Engine,
+    pub run: Run,
+    pub ready: bool,
+}
+
+// A saved record, and whether there is one: a save may be refused.
+pub struct Record {
+    pub bytes: [u8; 1024],
+    pub length: u16,
     pub ready: bool,
 }
 
@@ -25,28 +29,13 @@ fn is_boot(word: &[u8]) -> bool {
     word[0] == b'b' && word[1] == b'o' && word[2] == b'o' && word[3] == b't'
 }
 
-// Boot's state, and whether it is one to begin at.
+// The run at boot, and whether it is the one to begin.
 fn at_boot(ready: bool) -> Start {
-    let engine = Engine::boot();
-    Start { engine, ready }
+    let run = Run::at_boot();
+    Start { run, ready }
 }
 
-// The state of a record; one that is refused is said in one line on standard output.
-fn start_at(bytes: &[u8]) -> Start {
-    let loaded = load(bytes);
-    if loaded.answer != 0 {
-        print(refusal(loaded.answer));
-        return at_boot(false);
-    }
-    let kernel = loaded.kernel;
-    let engine = kernel.engine;
-    Start {
-        engine,
-        ready: true,
-    }
-}
-
-// The state of the record in a file, or boot's for the word `boot`. No record has more than 536 bytes, so the first 1,024 of a file decide.
+// The run at the record in a file, or at boot for the word `boot`. No record has more than 536 bytes, so the first 1,024 of a file decide.
 fn start_in(path: &[u8]) -> Start {
     if is_boot(path) {
         return at_boot(true);
@@ -62,10 +51,11 @@ fn start_in(path: &[u8]) -> Start {
         return at_boot(false);
     }
     let held = filled.held;
-    start_at(&buffer[..held])
+    let run = Run::at_record(&buffer[..held]);
+    Start { run, ready: true }
 }
 
-// The state that the argument i names.
+// The run that the argument i names.
 pub fn start_named(i: usize) -> Start {
     let mut path = io::buffer();
     let word = argument(i, &mut path);
@@ -76,11 +66,24 @@ pub fn start_named(i: usize) -> Start {
     start_in(&path[..length])
 }
 
-// Writes the saved record of an engine; whether that was done. A record has at most 536 bytes.
-pub fn write_record(engine: Engine, output: i32, path: &[u8]) -> bool {
-    let kernel = Kernel { engine };
-    let mut buffer = [0u8; 1024];
-    let saved = save(kernel, &mut buffer);
-    let length = within(saved.length as usize, &buffer);
-    write(output, path, &buffer[..length])
+// The record of a run; a save that is refused is said in one line on standard error. A record has at most 536 bytes.
+pub fn record_of(run: Run) -> Record {
+    let mut bytes = [0u8; 1024];
+    let saved = run.end(&mut bytes);
+    let ready = saved.answer == 0;
+    if !ready {
+        say(save_refusal(saved.answer));
+    }
+    Record {
+        bytes,
+        length: saved.length,
+        ready,
+    }
+}
+
+// Writes a record; whether that was done.
+pub fn write_record(record: Record, output: i32, path: &[u8]) -> bool {
+    let bytes = record.bytes;
+    let length = within(record.length as usize, &bytes);
+    write(output, path, &bytes[..length])
 }

@@ -7,8 +7,8 @@ use native.Mathlib.Nat.{add-zero}
 use native.Mathlib.Numerals.{add-one}
 use native.Mathlib.Omega.{arith}
 use borrow.Author.Tests.{le-leb, lt-leb}
-use lib.ListN.{length, take, drop, getD, set, replicate, length-drop, length-map, length-replicate, take-append-drop, drop-of-length-le}
-use lib.Seq.{paste, paste-suc, getD-drop, take-length, drop-at}
+use lib.ListN.{length, take, drop, getD, set, replicate, length-map, length-replicate, take-append-drop, drop-of-length-le}
+use lib.Seq.{paste, paste-suc, take-length, drop-at}
 use Rattle.laws.specs.Lists.{by-below}
 use Rattle.text.specs.Texts.{textOf, bytesOf, collected, usedAfter}
 
@@ -41,11 +41,9 @@ pub past-end : (buffer : List ℕ) (used : ℕ) (bytes : List ℕ) (from : ℕ) 
 past-end buffer used bytes from h = rw (drop-of-length-le bytes {i = from} (omega arith)) (nothing-laid buffer used)
 
 -- one byte more
-pub paste-on : (buffer : List ℕ) (used : ℕ) (bytes : List ℕ) (from i : ℕ) → used + i < length buffer → from + i < length bytes
-    → set (paste buffer used (drop from bytes) i) (used + i) (getD bytes (from + i) 0) ≡ paste buffer used (drop from bytes) (i + 1)
-paste-on buffer used bytes from i h k =
-    let size = length-drop from bytes in
-    rw (add-one i, ← getD-drop from bytes i 0) (paste-suc buffer used (drop from bytes) i 0 h (omega arith))
+pub paste-on : (buffer : List ℕ) (used : ℕ) (bytes : List ℕ) (i : ℕ) → used + i < length buffer → i < length bytes
+    → set (paste buffer used bytes i) (used + i) (getD bytes i 0) ≡ paste buffer used bytes (i + 1)
+paste-on buffer used bytes i h k = rw (add-one i) (paste-suc buffer used bytes i 0 h k)
 
 -- the bytes of a text that was made of a list are the list
 pub bytes-of : (l : List ℕ) → bytesOf (textOf l) ≡ l

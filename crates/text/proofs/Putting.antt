@@ -8,7 +8,7 @@ use lib.ListN.{length, take, getD, replicate, length-append, length-replicate, r
 use lib.Seq.{set-at, take-suc}
 use Rattle.calls.specs.declared.Answer.{Answer}
 use Rattle.text.specs.declared.Text.{Text}
-use Rattle.text.specs.Texts.{textOf, putModel, putAll, digits, lineBytes, refusalBytes, refusedBytes, entryBytes}
+use Rattle.text.specs.Texts.{textOf, putModel, putAll, digits, lineBytes, entryBytes}
 use Rattle.text.proofs.Digits.{one-digit, last-digit, few-digits}
 
 -- a byte in front of a text that has room
@@ -65,13 +65,15 @@ pub line-put : (n : ℕ) (answer : Answer) → n < 2 ^ 64 → answer .number < 2
 unfolding lineBytes putAll
 line-put n answer a b c d = sym (simp put-append) ∙ put-all (lineBytes n answer) (line-fits n answer a b c d)
 
--- the line of a refused record is put together from its end
-pub refusal-put : (answer : ℕ) → answer < 256
-    → putAll (putAll (putModel (textOf []) 10) (digits answer)) refusedBytes ≡ textOf (refusalBytes answer)
-unfolding refusalBytes putAll
-refusal-put answer h =
-    let fits : length (refusalBytes answer) ≤ 48 = simp length-append (omega (arith, few-digits 2 answer (omega arith))) in
-    sym (simp put-append) ∙ put-all (refusalBytes answer) fits
+-- the line of what is refused has at most 48 bytes
+pub refusal-fits : (words : List ℕ) (answer : ℕ) → length words ≤ 15 → answer < 256 → length (words ++ (digits answer ++ (10 ∷ []))) ≤ 48
+refusal-fits words answer w h = simp length-append (omega (arith, few-digits 2 answer (omega arith)))
+
+-- the line of what is refused is put together from its end
+pub refusal-put : (words : List ℕ) (answer : ℕ) → length words ≤ 15 → answer < 256
+    → putAll (putAll (putModel (textOf []) 10) (digits answer)) words ≡ textOf (words ++ (digits answer ++ (10 ∷ [])))
+unfolding putAll
+refusal-put words answer w h = sym (simp put-append) ∙ put-all (words ++ (digits answer ++ (10 ∷ []))) (refusal-fits words answer w h)
 
 -- the line of a record in a list is put together from its end
 pub entry-put : (n answer size : ℕ) → n < 2 ^ 64 → answer < 256 → size < 65536

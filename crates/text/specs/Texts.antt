@@ -36,6 +36,14 @@ refusedBytes = 114 ∷ 101 ∷ 99 ∷ 111 ∷ 114 ∷ 100 ∷ 32 ∷ 114 ∷ 101
 unfoldable pub refusalBytes : ℕ → List ℕ
 refusalBytes answer = refusedBytes ++ (digits answer ++ (10 ∷ []))
 
+-- `save refused` and a blank
+abbrev pub unsavedBytes : List ℕ
+unsavedBytes = 115 ∷ 97 ∷ 118 ∷ 101 ∷ 32 ∷ 114 ∷ 101 ∷ 102 ∷ 117 ∷ 115 ∷ 101 ∷ 100 ∷ 32 ∷ []
+
+-- the line of a save that is refused: `save refused`, a blank, the answer, and a line feed
+unfoldable pub saveRefusalBytes : ℕ → List ℕ
+saveRefusalBytes answer = unsavedBytes ++ (digits answer ++ (10 ∷ []))
+
 -- the line of record n: n, the answer to its load and the length of its save, with a blank between, and a line feed
 unfoldable pub entryBytes : ℕ → ℕ → ℕ → List ℕ
 entryBytes n answer length = digits n ++ (32 ∷ digits answer ++ (32 ∷ digits length ++ (10 ∷ [])))

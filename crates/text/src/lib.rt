@@ -1,12 +1,12 @@
-// The text of a run: the heading, and one line for each row, its number and the three numbers of its answer, in decimal; of a record that is
-// refused, and of a record in a list of them.
+// The text of a run: the heading, and one line for each row, its number and the three numbers of its answer, in decimal; of a record or a save that
+// is refused, and of a record in a list of them.
 // A text is put together from its last byte to its first, since a number gives its last digit first.
 use calls::Answer;
 ghost use mathlib.Core.Path.{_≡_};
 ghost use mathlib.Core.List.{[]};
 ghost use Prim.Native.Nat.{_+_, _%_, _≤_};
 ghost use lib.ListN.{length};
-ghost use Rattle.text.specs.Texts.{textOf, putModel, putAll, digits, lineBytes, headingBytes, refusalBytes, entryBytes, bytesOf, collected, usedAfter};
+ghost use Rattle.text.specs.Texts.{textOf, putModel, putAll, digits, lineBytes, headingBytes, refusalBytes, saveRefusalBytes, entryBytes, bytesOf, collected, usedAfter};
 
 // A short text: the bytes from a place on, with zeros in front of them.
 pub struct Text {
@@ -111,6 +111,15 @@ pub fn refusal(answer: u8) -> Text
     put_bytes(number, b"record refused ")
 }
 
+// The line of a save that is refused: `save refused`, a blank, the answer, and a line feed.
+pub fn save_refusal(answer: u8) -> Text
+    ensures { λ r. ⌜ r ≡ textOf (saveRefusalBytes answer) ⌝ }
+{
+    let end = put(empty(), 10);
+    let digits = put_number(end, answer as u64);
+    put_bytes(digits, b"save refused ")
+}
+
 // The line of record n: n, the answer to its load and the length of its save, with a blank between, and a line feed.
 pub fn entry(n: u64, answer: u8, length: u16) -> Text
     ensures { λ r. ⌜ r ≡ textOf (entryBytes n answer length) ⌝ }
@@ -123,6 +132,25 @@ pub fn entry(n: u64, answer: u8, length: u16) -> Text
     put_number(first, n)
 }
 
+// Bytes after the used part of a buffer, and how much of it is used then. Bytes that the buffer has no room for are left out.
+pub fn lay(bytes: &[u8], used: usize, output: &mut [u8]) -> usize
+    ensures { λ r. ⌜ (r ≡ usedAfter (now (output .entry)) used (now (bytes .entry))) × (now (output .exit) ≡ collected (now (output .entry)) used (now (bytes .entry))) ⌝ }
+{
+    let size = bytes.len();
+    if output.len() < size {
+        return used;
+    }
+    if output.len() - size < used {
+        return used;
+    }
+    let mut i: usize = 0;
+    while i < size {
+        output[used + i] = bytes[i];
+        i += 1;
+    }
+    used + size
+}
+
 // A text after the used part of a buffer, and how much of it is used then. A text that the buffer has no room for is left out.
 pub fn collect(text: Text, used: usize, output: &mut [u8]) -> usize
     ensures { λ r. ⌜ (r ≡ usedAfter (now (output .entry)) used (bytesOf text)) × (now (output .exit) ≡ collected (now (output .entry)) used (bytesOf text)) ⌝ }
@@ -132,17 +160,5 @@ pub fn collect(text: Text, used: usize, output: &mut [u8]) -> usize
     if 48 < from {
         return used;
     }
-    let size = 48 - from;
-    if output.len() < size {
-        return used;
-    }
-    if output.len() - size < used {
-        return used;
-    }
-    let mut i: usize = 0;
-    while i < size {
-        output[used + i] = bytes[from + i];
-        i += 1;
-    }
-    used + size
+    lay(&bytes[from..], used, output)
 }

@@ -2,109 +2,86 @@
 //
 //     trace CALLS START OUT    from the record in START, or `boot`; the records go to OUT
 //
-// A last row that is cut short counts as a row. A START that is refused is said in one line on standard output, and OUT is then not written.
-use engine::Engine;
+// A last row that is cut short counts as a row. Of a START that is refused one line is written on standard output, and OUT is not written. OUT is opened
+// when the first record is made.
 use files::argument;
 use files::fill;
 use files::open_input;
 use files::open_output;
+use files::write;
 use libc::STDERR_FILENO;
-use rows::row_at;
-use rows::step_row;
+use libc::STDOUT_FILENO;
+use runs::Run;
+use stored::record_of;
 use stored::start_named;
 use stored::write_record;
 
-// How far a trace has come: the engine, and whether it has ended.
+// How far a trace has come: the run, and whether it has ended.
 struct Trace {
-    engine: Engine,
+    run: Run,
     ended: bool,
 }
 
-// The records after the whole rows, in order.
-fn trace_rows(engine: Engine, bytes: &[u8], output: i32, out: &[u8]) -> Trace {
-    let rows = bytes.len() / 8;
-    let mut reached = engine;
-    let mut i: usize = 0;
-    while i < rows {
-        let row = row_at(bytes, i * 8);
-        let stepped = step_row(reached, row);
-        let next = stepped.engine;
-        reached = next;
-        if !write_record(next, output, out) {
-            return Trace {
-                engine: reached,
-                ended: true,
-            };
-        }
-        i += 1;
-    }
-    Trace {
-        engine: reached,
-        ended: false,
-    }
+// Writes the record of a run; whether that was done.
+fn write_reached(run: Run, output: i32, out: &[u8]) -> bool {
+    let record = record_of(run);
+    record.ready && write_record(record, output, out)
 }
 
-// The records after all rows, and after a last one that is cut short, which changes nothing.
-fn trace_part(engine: Engine, bytes: &[u8], output: i32, out: &[u8]) -> Trace {
-    let whole = trace_rows(engine, bytes, output, out);
-    if whole.ended {
-        return whole;
-    }
-    let reached = whole.engine;
-    if bytes.len() % 8 != 0 {
-        write_record(reached, output, out);
-    }
-    Trace {
-        engine: reached,
-        ended: bytes.len() < 8192,
-    }
-}
-
-// Reads 8,192 bytes, or what is left, and writes the records after their rows.
-fn trace_some(trace: Trace, input: i32, calls: &[u8], output: i32, out: &[u8]) -> Trace {
-    let engine = trace.engine;
-    let mut buffer = [0u8; 8192];
-    let filled = fill(input, calls, &mut buffer);
-    if filled.failed {
-        return Trace {
-            engine,
-            ended: true,
-        };
-    }
+// Reads one row, or what is left of one, feeds it to the run and writes the record after it.
+fn trace_row(trace: Trace, input: i32, calls: &[u8], output: i32, out: &[u8]) -> Trace {
+    let run = trace.run;
+    let mut block = [0u8; 8192];
+    let filled = fill(input, calls, &mut block[..8]);
     let held = filled.held;
-    trace_part(engine, &buffer[..held], output, out)
+    if filled.failed || held == 0 {
+        return Trace { run, ended: true };
+    }
+    let mut text = io::large_buffer();
+    let fed = run.feed(&block, held, &mut text);
+    let after = fed.run;
+    let is_written = write_reached(after, output, out);
+    Trace {
+        run: after,
+        ended: !is_written || held < 8,
+    }
 }
 
 // A proved loop has to end, and nothing says that an input does. So the loop counts its turns down, from a number that no trace uses up.
-fn trace_all(engine: Engine, input: i32, calls: &[u8], output: i32, out: &[u8]) {
-    let ended = !write_record(engine, output, out);
-    let mut trace = Trace { engine, ended };
+fn trace_rows(run: Run, input: i32, calls: &[u8], output: i32, out: &[u8]) {
+    let mut trace = Trace { run, ended: false };
     let mut turns = u64::MAX;
     while turns > 0 && !trace.ended {
-        let next = trace_some(trace, input, calls, output, out);
+        let next = trace_row(trace, input, calls, output, out);
         trace = next;
         turns -= 1;
     }
 }
 
 // Traces into the file that is named third.
-fn trace_into(engine: Engine, input: i32, calls: &[u8]) {
+fn trace_into(run: Run, input: i32, calls: &[u8]) {
     let mut path = io::buffer();
     let word = argument(3, &mut path);
     if !word.whole {
         return;
     }
     let length = word.length;
+    let first = record_of(run);
+    if !first.ready {
+        return;
+    }
     let output = open_output(&path[..length]);
     if output < 0 {
         return;
     }
-    trace_all(engine, input, calls, output, &path[..length]);
+    if write_record(first, output, &path[..length]) {
+        trace_rows(run, input, calls, output, &path[..length]);
+    }
     libc::close(output);
 }
 
 // Traces the calls of the file that is named first.
-fn trace_file(engine: Engine) {
+fn trace_file(run: Run) {
     let mut path = io::buffer();
     let word = argument(1, &mut path);
     if !word.whole {
@@ -115,8 +92,16 @@ fn trace_file(engine: Engine) {
     if input < 0 {
         return;
     }
-    trace_into(engine, input, &path[..length]);
+    trace_into(run, input, &path[..length]);
     libc::close(input);
+}
+
+// Writes the one line of a refused run.
+fn tell(run: Run) {
+    let mut output = io::large_buffer();
+    let closed = run.close(&mut output);
+    let used = closed.used;
+    write(STDOUT_FILENO, b"standard output", &output[..used]);
 }
 
 fn main() {
@@ -125,8 +110,13 @@ fn main() {
         return;
     }
     let start = start_named(2);
-    if start.ready {
-        let engine = start.engine;
-        trace_file(engine);
+    if !start.ready {
+        return;
     }
+    let run = start.run;
+    if run.answer() != 0 {
+        tell(run);
+        return;
+    }
+    trace_file(run);
 }

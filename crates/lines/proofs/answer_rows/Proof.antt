@@ -8,16 +8,18 @@ use lib.ListN.{length}
 use borrow.Author.Needs.{needs}
 use Rattle.plain.specs.Standing.{engineIn, steppedIn}
 use Rattle.turns.proofs.Sorts.{plain-turns, timed-turns, apart}
-use Rattle.lines.specs.Output.{at, cutLine, linesFrom, rowsFrom}
-use Rattle.lines.proofs.Turning.{taken-row, turned, turned-short, begin-rows, begin-lines, end-rows, end-lines}
+use Rattle.lines.specs.Inner.{innerAnswers}
+use Rattle.lines.specs.Output.{numbered, rowsIn, at, rowsWritten}
+use Rattle.lines.proofs.Turning.{rowsFrom, linesLength, taken-row, turned, turned-short, begin-rows, end-rows}
+use Rattle.lines.proofs.Order.{rows-laid}
 use Rattle.lines.proofs.answer_rows.Statement.{statement}
 use Rattle.lines.proofs.answer_rows.Tie as tie
 
 abbrev Inv-loop : tie.InvT-loop
 Inv-loop bytes output₀ rows cells₀ clock₀ counts₀ made₀ i₀ output cells clock counts made i =
     (rows ≡ length bytes / 8) × (i ≤ rows) × (length output ≡ length output₀)
-    × (rowsFrom (rows - i) i (at (engineIn cells clock counts) made output) bytes ≡ rowsFrom rows 0 (at (engineIn cells₀ clock₀ counts₀) made₀ output₀) bytes)
-    × (length (linesFrom rows 0 (engineIn cells₀ clock₀ counts₀) (made₀ .last) bytes) ≤ 48 * i + length (linesFrom (rows - i) i (engineIn cells clock counts) (made .last) bytes))
+    × (rowsWritten (at (engineIn cells clock counts) made output) (rowsFrom i bytes) ≡ rowsWritten (at (engineIn cells₀ clock₀ counts₀) made₀ output₀) (rowsIn bytes))
+    × (linesLength (engineIn cells₀ clock₀ counts₀) (made₀ .last) (rowsIn bytes) ≤ 48 * i + linesLength (engineIn cells clock counts) (made .last) (rowsFrom i bytes))
 
 abbrev μ-loop : tie.MeasureT-loop
 μ-loop bytes output₀ rows cells₀ clock₀ counts₀ made₀ i₀ output cells clock counts made i = rows - i
@@ -34,8 +36,8 @@ counts-of-requires c κs = search needs
 loop-holds : tie.Need-loop-holds Inv-loop μ-loop
 loop-holds c =
     let a = c .before .before .before .before .before .args in
-    let n = length (a .bytes .now) / 8 in
-    (refl, omega arith, refl, begin-rows n _ (a .bytes .now), begin-lines n _ (a .lines .last) (a .bytes .now))
+    let all = begin-rows (a .bytes .now) in
+    (refl, omega arith, refl, ap (rowsWritten _) all, rw all (omega arith))
 
 mul-row-at : tie.Need-mul-row-at Inv-loop μ-loop
 mul-row-at c = omega arith
@@ -82,8 +84,8 @@ loop-again c =
       l .inv .0,
       omega (arith, less),
       ap length (w .8) ∙ added .kept .1 .1 .0 ∙ l .inv .2,
-      turned n (l .i) x (l .made) (l .output) bytes _ s _ _ less (c .before .before .before .row-at .ensures) done (added .ensures .0) _ _ _ (λ j. engineIn (w .9 j) (w .10 j) (w .11 j)) (w .12) (w .8) (added .ensures .1) ∙ l .inv .3,
-      turned-short n (l .i) x (l .made) (l .output) bytes _ s _ _ less (c .before .before .before .row-at .ensures) done (added .ensures .0) _ _ _ (λ j. engineIn (w .9 j) (w .10 j) (w .11 j)) (w .12) (w .8) _ (added .ensures .2) (l .inv .4),
+      turned (l .i) x (l .made) (l .output) bytes _ s _ _ less (c .before .before .before .row-at .ensures) done (added .ensures .0) _ _ _ (λ j. engineIn (w .9 j) (w .10 j) (w .11 j)) (w .12) (w .8) (added .ensures .1) ∙ l .inv .3,
+      turned-short (l .i) x (l .made) (l .output) bytes _ s _ _ less (c .before .before .before .row-at .ensures) done (added .ensures .0) _ _ _ (λ j. engineIn (w .9 j) (w .10 j) (w .11 j)) (w .12) (w .8) _ (added .ensures .2) (l .inv .4),
     ))
     (λ w.
     let s = steppedIn (w .2 .last .0) (l .clock) (w .2 .result .counts) (w .2 .result .answer) in
@@ -92,8 +94,8 @@ loop-again c =
       l .inv .0,
       omega (arith, less),
       ap length (w .8) ∙ added .kept .1 .1 .0 ∙ l .inv .2,
-      turned n (l .i) x (l .made) (l .output) bytes _ s _ _ less (c .before .before .before .row-at .ensures) done (added .ensures .0) _ _ _ (λ j. engineIn (w .9 j) (w .10 j) (w .11 j)) (w .12) (w .8) (added .ensures .1) ∙ l .inv .3,
-      turned-short n (l .i) x (l .made) (l .output) bytes _ s _ _ less (c .before .before .before .row-at .ensures) done (added .ensures .0) _ _ _ (λ j. engineIn (w .9 j) (w .10 j) (w .11 j)) (w .12) (w .8) _ (added .ensures .2) (l .inv .4),
+      turned (l .i) x (l .made) (l .output) bytes _ s _ _ less (c .before .before .before .row-at .ensures) done (added .ensures .0) _ _ _ (λ j. engineIn (w .9 j) (w .10 j) (w .11 j)) (w .12) (w .8) (added .ensures .1) ∙ l .inv .3,
+      turned-short (l .i) x (l .made) (l .output) bytes _ s _ _ less (c .before .before .before .row-at .ensures) done (added .ensures .0) _ _ _ (λ j. engineIn (w .9 j) (w .10 j) (w .11 j)) (w .12) (w .8) _ (added .ensures .2) (l .inv .4),
     ))
     (c .if1 .came)
 
@@ -104,19 +106,20 @@ same-length : tie.Need-same-length Inv-loop μ-loop
 same-length c = c .before .before .before .loop .inv .2
 
 returns : tie.Need-returns Inv-loop μ-loop
+unfolding rowsWritten numbered innerAnswers
 returns c =
     let l = c .before .before .before .loop in
-    let a = c .before .before .before .before .before .before .before .before .before .args in
+    let given = c .before .before .before .before .before .before .before .before .before in
+    let a = given .args in
     let bytes = a .bytes .now in
-    let n = length bytes / 8 in
     let x = engineIn (l .cells) (l .clock) (l .counts) in
     let begun = apart (a .engine) _ _ _ (c .before .before .before .before .before .before .cells-of .ensures) (c .before .before .before .before .before .clock-of .ensures) (c .before .before .before .before .counts-of .ensures) in
-    let all : n ≤ l .i = c .before .before .loop-test .left in (
-      ap (λ e. at e (l .made) (l .output)) (c .engine-of .ensures) ∙ end-rows n (l .i) (at x (l .made) (l .output)) _ bytes all (l .inv .3)
-          ∙ ap (λ e. rowsFrom n 0 (at e (a .lines) (a .output .now)) bytes) begun,
-      subst (λ e. length (linesFrom n 0 e (a .lines .last) bytes) ≤ 48 * n + length (cutLine (c .engine-of .result) (l .made .last) bytes)) begun
-          (rw (c .engine-of .ensures) (end-lines n (l .i) x (l .made .last) bytes _ all (l .inv .1) (l .inv .4))),
-    )
+    let none = end-rows (l .i) bytes (c .before .before .loop-test .left) in
+    let made = ap (λ e. at e (l .made) (l .output)) (c .engine-of .ensures) ∙ sym (ap (rowsWritten (at x (l .made) (l .output))) none) ∙ l .inv .3
+    ∙ ap (λ e. rowsWritten (at e (a .lines) (a .output .now)) (rowsIn bytes)) begun in
+    let short : linesLength (a .engine) (a .lines .last) (rowsIn bytes) ≤ 48 * l .i
+    = subst (λ e. linesLength e (a .lines .last) (rowsIn bytes) ≤ 48 * l .i) begun (omega (arith, l .inv .4, ap (linesLength x (l .made .last)) none)) in
+    (made, λ room. made ∙ rows-laid (rowsIn bytes) (a .engine) (a .lines) (a .output .now) (search needs) (omega (arith, short, room, l .inv .1)))
 
 pub answer-rows-spec : {M : Type 1} → statement M
 answer-rows-spec =

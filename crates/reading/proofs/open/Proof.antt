@@ -1,6 +1,6 @@
 -- `open` meets its contract: counts that do not fit, or the tests that decide right form. Assumes nothing.
 use Rattle.laws.specs.Bools.{denied, not-not}
-use Rattle.reading.proofs.Forms.{opened-wrong, opened-right}
+use Rattle.reading.proofs.Forms.{opened-wrong, opened-unformed, opened-right}
 use borrow.Author.Needs.{needs}
 use Rattle.reading.proofs.open.Statement.{statement}
 use Rattle.reading.proofs.open.Tie as tie
@@ -20,14 +20,14 @@ word-at-requires-4 c κs = search needs
 counts-fit-requires : tie.Need-counts-fit-requires
 counts-fit-requires c κs = search needs
 
-blank-requires : tie.Need-blank-requires
-blank-requires c κs = search needs
+wrong-form-requires : tie.Need-wrong-form-requires
+wrong-form-requires c κs = search needs
 
 returns : tie.Need-returns
 returns c =
     let w = c .before .before .before in
     let a = w .before .before .before .before .before .args in
-    opened-wrong (a .bytes .now) (w .before .before .before .word-at .ensures) (w .before .before .word-at2 .ensures) (w .before .word-at3 .ensures) (w .word-at4 .ensures) (c .before .before .counts-fit .ensures) (c .blank .result) (denied _ (c .before .if1 .taken))
+    opened-wrong (a .bytes .now) (w .before .before .before .word-at .ensures) (w .before .before .word-at2 .ensures) (w .before .word-at3 .ensures) (w .word-at4 .ensures) (c .before .before .counts-fit .ensures) _ (denied _ (c .before .if1 .taken)) (c .wrong-form .ensures)
 
 cast-read : tie.Need-cast-read
 cast-read c = search needs
@@ -47,11 +47,22 @@ read-requires c κs = search needs
 is-formed-requires : tie.Need-is-formed-requires
 is-formed-requires c κs = search needs
 
+wrong-form-requires-2 : tie.Need-wrong-form-requires-2
+wrong-form-requires-2 c κs = search needs
+
 returns-2 : tie.Need-returns-2
 returns-2 c =
-    let w = c .before .before .before .before in
+    let w = c .before .before .before .before .before .before in
     let a = w .before .before .before .before .before .args in
-    opened-right (a .bytes .now) (w .before .before .before .word-at .ensures) (w .before .before .word-at2 .ensures) (w .before .word-at3 .ensures) (w .word-at4 .ensures) (c .before .before .before .counts-fit .ensures) (c .before .read .result) (c .is-formed .result) (not-not _ (c .before .before .if1 .left)) (λ j. w .before .before .before .before .shared-slice-known .given j .fits) (c .before .read .ensures) (c .is-formed .ensures)
+    opened-unformed (a .bytes .now) (w .before .before .before .word-at .ensures) (w .before .before .word-at2 .ensures) (w .before .word-at3 .ensures) (w .word-at4 .ensures) (c .before .before .before .before .before .counts-fit .ensures) _ _
+    (not-not _ (c .before .before .before .before .if1 .left)) (λ j. w .before .before .before .before .shared-slice-known .given j .fits) (c .before .before .before .read .ensures) (c .before .before .is-formed .ensures) _ (denied _ (c .before .if2 .taken)) (c .wrong-form2 .ensures)
+
+returns-3 : tie.Need-returns-3
+returns-3 c =
+    let w = c .before .before .before .before .before in
+    let a = w .before .before .before .before .before .args in
+    opened-right (a .bytes .now) (w .before .before .before .word-at .ensures) (w .before .before .word-at2 .ensures) (w .before .word-at3 .ensures) (w .word-at4 .ensures) (c .before .before .before .before .counts-fit .ensures) _ _
+    (not-not _ (c .before .before .before .if1 .left)) (λ j. w .before .before .before .before .shared-slice-known .given j .fits) (c .before .before .read .ensures) (c .before .is-formed .ensures) (not-not _ (c .if2 .left))
 
 pub open-spec : {M : Type 1} → statement M
 open-spec =
@@ -62,7 +73,7 @@ open-spec =
     word-at-requires-3
     word-at-requires-4
     counts-fit-requires
-    blank-requires
+    wrong-form-requires
     returns
     cast-read
     cast-read-2
@@ -70,4 +81,6 @@ open-spec =
     cast-read-4
     read-requires
     is-formed-requires
-    returns-2)
+    wrong-form-requires-2
+    returns-2
+    returns-3)

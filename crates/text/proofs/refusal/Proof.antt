@@ -1,5 +1,6 @@
 -- `refusal` meets its contract: each call by its own, and the law that the bytes are those of the line. Assumes nothing.
 use native.Mathlib.Omega.{arith}
+use Rattle.text.specs.Texts.{refusedBytes, refusalBytes}
 use Rattle.text.proofs.Putting.{refusal-put}
 use borrow.Author.Needs.{needs}
 use Rattle.text.proofs.refusal.Statement.{statement}
@@ -21,10 +22,11 @@ put-bytes-requires : tie.Need-put-bytes-requires
 put-bytes-requires c κs = search needs
 
 returns : tie.Need-returns
+unfolding refusalBytes
 returns c =
     let given = c .before .before .before .before .before in
     rw (c .put-bytes .ensures, c .before .before .put-number .ensures, c .before .before .before .put .ensures, c .before .before .before .before .empty .ensures)
-    (refusal-put (given .args .answer) (omega (arith, given .fits .answer)))
+    (refusal-put refusedBytes (given .args .answer) (omega arith) (omega (arith, given .fits .answer)))
 
 pub refusal-spec : {M : Type 1} → statement M
 refusal-spec =

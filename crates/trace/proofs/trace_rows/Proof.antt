@@ -1,44 +1,31 @@
--- `trace_rows` is safe and ends. The invariant: how many rows there are. The measure is how many rows are left. Assumes nothing.
-use lib.ListN.{length}
-use native.Mathlib.Omega.{arith}
-use mathlib.Core.Path.{_≡_, refl}
-use Prim.Native.Nat.{_-_, _/_}
+-- `trace_rows` is safe and ends. Nothing has to hold from turn to turn. The measure is the number of turns that are left. Assumes nothing.
 use borrow.Author.Needs.{needs}
 use Rattle.trace.proofs.trace_rows.Statement.{statement}
 use Rattle.trace.proofs.trace_rows.Tie as tie
 
 abbrev Inv-loop : tie.InvT-loop
-Inv-loop bytes output out rows reached₀ i₀ reached i = rows ≡ length bytes / 8
+Inv-loop input calls output out trace₀ turns₀ trace turns = Unit {0}
 
 abbrev μ-loop : tie.MeasureT-loop
-μ-loop bytes output out rows reached₀ i₀ reached i = rows - i
+μ-loop input calls output out trace₀ turns₀ trace turns = turns
 
 loop-holds : tie.Need-loop-holds Inv-loop μ-loop
-loop-holds c = refl
+loop-holds c = tt
 
-mul-row-at : tie.Need-mul-row-at Inv-loop μ-loop
-mul-row-at c = omega arith
+trace-row-requires : tie.Need-trace-row-requires Inv-loop μ-loop
+trace-row-requires c κs = search needs
 
-row-at-requires : tie.Need-row-at-requires Inv-loop μ-loop
-row-at-requires c κs = search needs
+sub-turns : tie.Need-sub-turns Inv-loop μ-loop
+sub-turns c = search needs
 
-step-row-requires : tie.Need-step-row-requires Inv-loop μ-loop
-step-row-requires c κs = search needs
+loop-less : tie.Need-loop-less Inv-loop μ-loop
+loop-less c = search needs
 
-write-record-requires : tie.Need-write-record-requires Inv-loop μ-loop
-write-record-requires c κs = search needs
+loop-again : tie.Need-loop-again Inv-loop μ-loop
+loop-again c = tt
 
 returns : tie.Need-returns Inv-loop μ-loop
 returns c = search needs
-
-add-i : tie.Need-add-i Inv-loop μ-loop
-add-i c = omega arith
-
-loop-less : tie.Need-loop-less Inv-loop μ-loop
-loop-less c = omega arith
-
-loop-again : tie.Need-loop-again Inv-loop μ-loop
-loop-again c = c .before .before .before .before .before .before .loop .inv
 
 returns-2 : tie.Need-returns-2 Inv-loop μ-loop
 returns-2 c = search needs
@@ -50,12 +37,9 @@ trace-rows-spec =
     Inv-loop
     μ-loop
     loop-holds
-    mul-row-at
-    row-at-requires
-    step-row-requires
-    write-record-requires
-    returns
-    add-i
+    trace-row-requires
+    sub-turns
     loop-less
     loop-again
+    returns
     returns-2)

@@ -1,13 +1,13 @@
--- `run_all` is safe and ends. Nothing has to hold from turn to turn. The measure is the number of turns that are left. Assumes nothing.
+-- `run_blocks` is safe and ends. Nothing has to hold from turn to turn. The measure is the number of turns that are left. Assumes nothing.
 use borrow.Author.Needs.{needs}
-use Rattle.run.proofs.run_all.Statement.{statement}
-use Rattle.run.proofs.run_all.Tie as tie
+use Rattle.run.proofs.run_blocks.Statement.{statement}
+use Rattle.run.proofs.run_blocks.Tie as tie
 
 abbrev Inv-loop : tie.InvT-loop
-Inv-loop input path run₀ turns₀ run turns = Unit {0}
+Inv-loop input path work₀ turns₀ work turns = Unit {0}
 
 abbrev μ-loop : tie.MeasureT-loop
-μ-loop input path run₀ turns₀ run turns = turns
+μ-loop input path work₀ turns₀ work turns = turns
 
 loop-holds : tie.Need-loop-holds Inv-loop μ-loop
 loop-holds c = tt
@@ -30,8 +30,8 @@ returns c = search needs
 returns-2 : tie.Need-returns-2 Inv-loop μ-loop
 returns-2 c = search needs
 
-pub run-all-spec : {M : Type 1} → statement M
-run-all-spec =
+pub run-blocks-spec : {M : Type 1} → statement M
+run-blocks-spec =
     tie.close
     (tie.spec
     Inv-loop

@@ -1,15 +1,12 @@
--- `print` is safe: the text's part lies within its bytes. Assumes nothing.
+-- `write_text` is safe: the text's part lies within its bytes. Assumes nothing.
 use Prim.Native.Nat.{_≤_}
 use mathlib.Core.Path.{_≡_}
 use lib.ListN.{length}
 use Rattle.laws.specs.Lists.{length-mapped}
 use native.Mathlib.Omega.{arith}
 use borrow.Author.Needs.{needs}
-use Rattle.files.proofs.print.Statement.{statement}
-use Rattle.files.proofs.print.Tie as tie
-
-slice-aggregate-write : tie.Need-slice-aggregate-write
-slice-aggregate-write c = search needs
+use Rattle.files.proofs.write_text.Statement.{statement}
+use Rattle.files.proofs.write_text.Tie as tie
 
 sub-write : tie.Need-sub-write
 sub-write c = search needs
@@ -29,11 +26,10 @@ write-requires c κs = search needs
 returns : tie.Need-returns
 returns c = search needs
 
-pub print-spec : {M : Type 1} → statement M
-print-spec =
+pub write-text-spec : {M : Type 1} → statement M
+write-text-spec =
     tie.close
     (tie.spec
-    slice-aggregate-write
     sub-write
     part-write-start
     part-write-end

@@ -1,0 +1,6 @@
+pub mod Laying
+pub mod Feeding
+pub mod Once
+pub mod Joining
+pub mod Pieces
+pub mod Shown

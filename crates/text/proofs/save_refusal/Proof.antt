@@ -1,0 +1,40 @@
+-- `save_refusal` meets its contract: each call by its own, and the law that the bytes are those of the line. Assumes nothing.
+use native.Mathlib.Omega.{arith}
+use Rattle.text.specs.Texts.{unsavedBytes, saveRefusalBytes}
+use Rattle.text.proofs.Putting.{refusal-put}
+use borrow.Author.Needs.{needs}
+use Rattle.text.proofs.save_refusal.Statement.{statement}
+use Rattle.text.proofs.save_refusal.Tie as tie
+
+empty-requires : tie.Need-empty-requires
+empty-requires c κs = search needs
+
+put-requires : tie.Need-put-requires
+put-requires c κs = search needs
+
+put-number-requires : tie.Need-put-number-requires
+put-number-requires c κs = search needs
+
+slice-aggregate-put-bytes : tie.Need-slice-aggregate-put-bytes
+slice-aggregate-put-bytes c = search needs
+
+put-bytes-requires : tie.Need-put-bytes-requires
+put-bytes-requires c κs = search needs
+
+returns : tie.Need-returns
+unfolding saveRefusalBytes
+returns c =
+    let given = c .before .before .before .before .before in
+    rw (c .put-bytes .ensures, c .before .before .put-number .ensures, c .before .before .before .put .ensures, c .before .before .before .before .empty .ensures)
+    (refusal-put unsavedBytes (given .args .answer) (omega arith) (omega (arith, given .fits .answer)))
+
+pub save-refusal-spec : {M : Type 1} → statement M
+save-refusal-spec =
+    tie.close
+    (tie.spec
+    empty-requires
+    put-requires
+    put-number-requires
+    slice-aggregate-put-bytes
+    put-bytes-requires
+    returns)
