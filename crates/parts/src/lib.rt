@@ -4,7 +4,6 @@
 use queue::Links;
 use queue::Queues;
 ghost use mathlib.Core.Path.{_≡_};
-ghost use mathlib.Core.Bool.{Bool};
 ghost use Rattle.parts.specs.Models.{joinModel, joinFrontModel, partModel, headModel, standModel, liftModel, arriveModel, arriveInFrontModel, runFirstModel, chooseNextModel, waitModel, leaveModelIn};
 
 // Links, and one set of queues.

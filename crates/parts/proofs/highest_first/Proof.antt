@@ -12,7 +12,7 @@ level-requires c κs = search needs
 
 returns : tie.Need-returns
 unfolding headModel
-returns c = cc
+returns c = rw (c .level .ensures, c .before .highest .ensures)
 
 pub highest-first-spec : {M : Type 1} → statement M
 highest-first-spec = tie.close (tie.spec highest-requires level-requires returns)

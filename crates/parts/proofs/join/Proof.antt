@@ -15,7 +15,7 @@ with-level-requires c κs = search needs
 
 returns : tie.Need-returns
 unfolding joinModel
-returns c = cc
+returns c = rw (c .with-level .ensures, c .before .before .back .ensures, c .before .before .before .level .ensures)
 
 pub join-spec : {M : Type 1} → statement M
 join-spec = tie.close (tie.spec level-requires back-requires with-level-requires returns)

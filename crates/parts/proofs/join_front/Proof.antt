@@ -15,7 +15,7 @@ with-level-requires c κs = search needs
 
 returns : tie.Need-returns
 unfolding joinFrontModel
-returns c = cc
+returns c = rw (c .with-level .ensures, c .before .before .front .ensures, c .before .before .before .level .ensures)
 
 pub join-front-spec : {M : Type 1} → statement M
 join-front-spec = tie.close (tie.spec level-requires front-requires with-level-requires returns)

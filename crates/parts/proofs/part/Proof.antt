@@ -15,7 +15,7 @@ with-level-requires c κs = search needs
 
 returns : tie.Need-returns
 unfolding partModel
-returns c = cc
+returns c = rw (c .with-level .ensures, c .before .before .leave .ensures, c .before .before .before .level .ensures)
 
 pub part-spec : {M : Type 1} → statement M
 part-spec = tie.close (tie.spec level-requires leave-requires with-level-requires returns)

@@ -21,7 +21,7 @@ stand-requires c κs = search needs
 
 returns : tie.Need-returns
 unfolding arriveModel
-returns c = cc
+returns c = rw (c .stand .ensures, c .before .before .before .join .ensures)
 
 pub arrive-spec : {M : Type 1} → statement M
 arrive-spec =

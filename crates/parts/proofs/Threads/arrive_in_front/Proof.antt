@@ -21,7 +21,7 @@ stand-requires c κs = search needs
 
 returns : tie.Need-returns
 unfolding arriveInFrontModel
-returns c = cc
+returns c = rw (c .stand .ensures, c .before .before .before .join-front .ensures)
 
 pub arrive-in-front-spec : {M : Type 1} → statement M
 arrive-in-front-spec =

@@ -9,7 +9,7 @@ part-requires c κs = search needs
 
 returns : tie.Need-returns
 unfolding leaveModelIn
-returns c = cc
+returns c = rw (c .before .before .part .ensures)
 
 pub leave-spec : {M : Type 1} → statement M
 leave-spec = tie.close (tie.spec part-requires returns)

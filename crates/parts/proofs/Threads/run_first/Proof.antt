@@ -21,8 +21,9 @@ stand-requires c κs = search needs
 returns-2 : tie.Need-returns-2
 unfolding runModel runFirstModel
 returns-2 c =
-    let some = c .before .before .before .before in
-    rw (← some .before .before .highest-first .ensures, lt-leb _ _ (some .if1 .left)) (cc)
+    let parted = c .before .before .before in
+    let some = parted .before in
+    rw (← some .before .before .highest-first .ensures, lt-leb _ _ (some .if1 .left), c .stand .ensures, parted .part .ensures)
 
 pub run-first-spec : {M : Type 1} → statement M
 run-first-spec =
