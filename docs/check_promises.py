@@ -110,6 +110,10 @@ def one_result(name: str, promise: str) -> str:
     for form, theorem in IN_PLACE.items():
         if form in promise:
             return theorem
+    if "Gives " in promise:
+        return "`gives-once`"
+    if "Ends " in promise:
+        return "`ends-once`"
     if "Saves " in promise:
         return "`saves-once`"
     if "Steps " in promise:
