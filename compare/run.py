@@ -7,9 +7,11 @@ START END. The second program makes COUNT call files, for a share of them with
 a start: a record, sound or damaged; the others begin at boot. Both programs
 run on each, and their texts and their last records are compared byte by byte;
 where the start is refused, neither may write a last record. How often each
-answer number was met is printed, and each that a run can give must be met: a
-small COUNT fails by that. The last line is `N passed, M failed`; the exit
-status is 0 only if something ran and M is 0, and 2 for wrong use.
+answer number was met is printed, and each that a run can give must be met; so
+must refused starts, and files of more rows than the program reads at a time,
+from boot and from records: a small COUNT fails by that. The last line is
+`N passed, M failed`; the exit status is 0 only if something ran and M is 0,
+and 2 for wrong use.
 """
 
 from __future__ import annotations
@@ -30,6 +32,8 @@ FILES = 2_000
 # 16 is about a buffer lent to save; a run has a buffer that is long enough.
 CANNOT_BE_MET = 16
 ANSWERS = [number for number in range(18) if number != CANNOT_BE_MET]
+# How many files must be answered more rows than these; 1,024 are read at once.
+LENGTHS = ((1_024, 60), (20_000, 5))
 
 
 class Run(NamedTuple):
@@ -99,6 +103,35 @@ def count_missing(runs: Sequence[Run]) -> int:
     return len(missing)
 
 
+def rows_answered(run: Run) -> int:
+    """How many rows the second program answered; none of a refused start."""
+    return max(0, run.beside(".want").read_bytes().count(b"\n") - 1)
+
+
+def is_refused(run: Run) -> bool:
+    """Whether the second program refused the start."""
+    return run.beside(".want").read_bytes().startswith(b"record refused ")
+
+
+def count_short(runs: Sequence[Run]) -> int:
+    """Print how many long files there are; how many kinds are too few."""
+    few = 0
+    for rows, wanted in LENGTHS:
+        found = [run for run in runs if rows_answered(run) > rows]
+        boot = sum(run.start == "boot" for run in found)
+        loaded = len(found) - boot
+        print(f"over {rows} rows: {boot} from boot, {loaded} from records")
+        if len(found) < wanted or not boot or not loaded:
+            print(f"too few, and counted as failed: {wanted} are wanted")
+            few += 1
+    refused = sum(is_refused(run) for run in runs)
+    print(f"refused starts: {refused}")
+    if not refused:
+        print("too few, and counted as failed: a refused start is wanted")
+        few += 1
+    return few
+
+
 def compare(
     program: Path, room: Path, count: int, seed: int
 ) -> Tuple[int, int]:
@@ -109,7 +142,7 @@ def compare(
     boot = sum(run.start == "boot" for run in runs)
     records = len(runs) - boot
     print(f"seed {seed}: {boot} files from boot, {records} from records")
-    missing = count_missing(runs)
+    missing = count_missing(runs) + count_short(runs)
     passed = count_passed(lambda run: judge_run(command, run), runs)
     # A file that was asked for and not made has failed as well.
     return passed, count - passed + missing

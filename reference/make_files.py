@@ -35,6 +35,12 @@ TRIES_ALONE, TRIES = 60, 2_000
 LONG_EVERY, LONG_PARTS = 1_000, 15
 LONG_LENGTHS = (65_535, 65_535, 65_534, 65_473, 65_472, 32_768, 4_096)
 
+# A program reads 1,024 rows at a time, so some files have more: some a few
+# times as many, and a few that many times over, by turns from boot and from a
+# record.
+MANY_EVERY, MANY_AT, MANY_ROWS = 25, 24, (1_025, 2_500)
+FAR_EVERY, FAR_AT, FAR_ROWS = 400, 250, (20_001, 22_000)
+
 
 class CallFile(NamedTuple):
     """The rows of a call file, the record it begins at, and the answers."""
@@ -130,19 +136,41 @@ def long_walk(chance: Chance) -> Walk:
     return walk
 
 
+def far_start(chance: Chance, seed: int, index: int) -> Optional[bytes]:
+    """Where a far walk begins: by turns at boot and at a sound record."""
+    if index // FAR_EVERY % 2 == 0:
+        return None
+    return bytes_of(deep_record(chance, seed))
+
+
+def some_rows(chance: Chance, index: int) -> Optional[int]:
+    """How many rows a walk goes on after its beginning; none: no walk."""
+    if index % FAR_EVERY == FAR_AT:
+        return chance.between(*FAR_ROWS)
+    if index % MANY_EVERY == MANY_AT:
+        return chance.between(*MANY_ROWS)
+    if chance.percent(3):
+        return None
+    return chance.pick((0, 40, 150, 300, 400, chance.below(500)))
+
+
 def make_call_file(seed: int, index: int) -> CallFile:
     """The call file of this index, with its start if it has one."""
     chance = chance_for(seed, CALLS_PURPOSE, index)
     if index % LONG_EVERY == LONG_EVERY // 2:
         walk = long_walk(chance)
         return CallFile(bytes(walk.rows), None, walk.answers)
-    start = some_start(chance, seed)
+    if index % FAR_EVERY == FAR_AT:
+        start = far_start(chance, seed, index)
+    else:
+        start = some_start(chance, seed)
     book = Book() if start is None else load(start)[1]
     walk = Walk(chance, chance.pick(TASTES), book)
-    if not chance.percent(3):
+    rows = some_rows(chance, index)
+    if rows is not None:
         if not book.started and chance.percent(95):
             walk.begin()
-        walk.go(chance.pick((0, 40, 150, 300, 400, chance.below(500))))
+        walk.go(rows)
     if chance.percent(12):
         walk.do(part_row(chance))
     return CallFile(bytes(walk.rows), start, walk.answers)

@@ -15,7 +15,8 @@ from book import Book
 from chance import Chance, chance_for
 from layout import Record, bytes_of, record_of
 from make_files import (
-    NEVER_ALONE, CallFile, make_call_file, make_record,
+    FAR_AT, FAR_EVERY, MANY_AT, MANY_EVERY, NEVER_ALONE, CallFile,
+    make_call_file, make_record,
 )
 from make_records import (
     deep_record, laid_out_record, started_record, stopped_record,
@@ -134,6 +135,21 @@ class CallFiles(unittest.TestCase):
         }
         self.assertEqual(answers, {0, 1, 15})
         self.assertTrue(any(one.start is None for one in made))
+
+    def test_lengths(self) -> None:
+        """Some files have more rows than one read, from boot and records."""
+        many = [
+            one for one in call_files()[MANY_AT::MANY_EVERY]
+            if len(one.rows) // 8 > 1_024
+        ]
+        self.assertEqual(len(many), FILES // MANY_EVERY)
+        self.assertEqual({one.start is None for one in many}, {True, False})
+        for index in (FAR_AT, FAR_AT + FAR_EVERY):
+            far = make_call_file(SEED, index)
+            self.assertGreater(len(far.rows) // 8, 20_000)
+            self.assertEqual(far.start is None, index == FAR_AT)
+            if far.start is not None:
+                self.assertEqual(load(far.start)[0], 0)
 
     def test_deep_states_are_met(self) -> None:
         """Rings, crowds, many expired at once, the round, marks below 0."""
