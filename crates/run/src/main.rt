@@ -125,7 +125,8 @@ fn save_into(run: Run, path: &[u8]) {
         }
     }
     let record = record_of(run);
-    if !record.ready {
+    let saved = record.saved;
+    if saved.answer != 0 {
         return;
     }
     let output = open_output(path);

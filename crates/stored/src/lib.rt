@@ -5,8 +5,11 @@ use files::open_input;
 use files::say;
 use files::within;
 use files::write;
+use record::Saved;
 use runs::Run;
 use text::save_refusal;
+ghost use lib.ListN.{replicate};
+ghost use Rattle.runs.specs.Pieces.{Ends};
 
 // A run, and whether there is one: where START cannot be read there is none.
 pub struct Start {
@@ -14,11 +17,10 @@ pub struct Start {
     pub ready: bool,
 }
 
-// A saved record, and whether there is one: a save may be refused.
+// A record in a buffer that is long enough for any, and what its save gave.
 pub struct Record {
     pub bytes: [u8; 1024],
-    pub length: u16,
-    pub ready: bool,
+    pub saved: Saved,
 }
 
 // Whether a word is `boot`.
@@ -67,23 +69,24 @@ pub fn start_named(i: usize) -> Start {
 }
 
 // The record of a run; a save that is refused is said in one line on standard error. A record has at most 536 bytes.
-pub fn record_of(run: Run) -> Record {
+pub fn record_of(run: Run) -> Record
+    ensures { λ r. ⌜ Ends run (replicate 1024 0) (r .saved) (r .bytes) ⌝ }
+{
     let mut bytes = [0u8; 1024];
     let saved = run.end(&mut bytes);
-    let ready = saved.answer == 0;
-    if !ready {
+    if saved.answer != 0 {
         say(save_refusal(saved.answer));
     }
-    Record {
-        bytes,
-        length: saved.length,
-        ready,
-    }
+    Record { bytes, saved }
 }
 
-// Writes a record; whether that was done.
+// Writes a record; whether that was done. Of a save that was refused there is none.
 pub fn write_record(record: Record, output: i32, path: &[u8]) -> bool {
+    let saved = record.saved;
+    if saved.answer != 0 {
+        return false;
+    }
     let bytes = record.bytes;
-    let length = within(record.length as usize, &bytes);
+    let length = within(saved.length as usize, &bytes);
     write(output, path, &bytes[..length])
 }

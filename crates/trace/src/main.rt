@@ -24,8 +24,7 @@ struct Trace {
 
 // Writes the record of a run; whether that was done.
 fn write_reached(run: Run, output: i32, out: &[u8]) -> bool {
-    let record = record_of(run);
-    record.ready && write_record(record, output, out)
+    write_record(record_of(run), output, out)
 }
 
 // Reads one row, or what is left of one, feeds it to the run and writes the record after it.
@@ -67,7 +66,8 @@ fn trace_into(run: Run, input: i32, calls: &[u8]) {
     }
     let length = word.length;
     let first = record_of(run);
-    if !first.ready {
+    let saved = first.saved;
+    if saved.answer != 0 {
         return;
     }
     let output = open_output(&path[..length]);
