@@ -1,12 +1,12 @@
 -- One row more: for the buffer and for the length of the lines.
 -- Assumes nothing.
 use Prim.Native.Nat.{ℕ, suc, _+_, _*_, _-_, _/_, _<_, _≤_}
-use mathlib.Core.Path.{_≡_, refl, sym, ap, ap₂, _∙_}
-use mathlib.Core.List.{List, [], _∷_, _++_}
+use mathlib.Core.Path.{_≡_, refl, sym, ap, _∙_}
+use mathlib.Core.List.{List, [], _∷_}
 use native.Mathlib.Nat.{sub-zero}
 use native.Mathlib.Omega.{arith}
 use borrow.Author.Tests.{le-leb}
-use lib.ListN.{length, take, drop, length-append}
+use lib.ListN.{length, drop, length-append}
 use lib.Seq.{drop-drop}
 use Rattle.engine.specs.declared.Engine.{Engine}
 use Rattle.engine.specs.declared.Stepped.{Stepped}
@@ -21,7 +21,7 @@ use Rattle.text.specs.Texts.{lineBytes, textOf, bytesOf, collected, usedAfter}
 use Rattle.text.proofs.Collecting.{bytes-of}
 use Rattle.lines.specs.declared.Lines.{Lines}
 use Rattle.lines.specs.Inner.{innerAnswers}
-use Rattle.lines.specs.Output.{next, numbered, rowsIn, Written, at, addLine, addedTo, oneRow, rowsWritten}
+use Rattle.lines.specs.Output.{next, numbered, rowsIn, at, addLine, addedTo, oneRow, rowsWritten}
 
 -- the rows of some bytes from row i on
 abbrev pub rowsFrom : ℕ → List ℕ → List (List ℕ)

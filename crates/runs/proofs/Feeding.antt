@@ -3,7 +3,7 @@
 use Prim.Native.Nat.{ℕ, _+_, _%_, _^_, _<_, _≤_}
 use mathlib.Core.Path.{_≡_, refl, sym, ap, ap₂, _∙_}
 use mathlib.Core.Bool.{true, cond}
-use mathlib.Core.List.{List, [], _∷_, _++_, append-nil}
+use mathlib.Core.List.{List, [], _++_, append-nil}
 use native.Mathlib.Nat.{add-zero}
 use native.Mathlib.Omega.{arith}
 use borrow.Author.Tests.{eq-eqb, ne-eqb}
@@ -13,11 +13,10 @@ use Rattle.laws.specs.Bools.{by-cases}
 use Rattle.turns.specs.Turning.{partModel}
 use Rattle.text.specs.Texts.{lineBytes, laid, collected, usedAfter}
 use Rattle.lines.specs.declared.Lines.{Lines}
-use Rattle.lines.specs.Inner.{innerAnswers, innerFinal}
+use Rattle.lines.specs.Inner.{innerFinal}
 use Rattle.lines.specs.Output.{next, lastAfter, numbered, rowsIn, Written, addLine, addedTo, Room, rowsLaid}
 use Rattle.lines.proofs.Order.{length-laid, line-laid}
 use Rattle.runs.specs.declared.Run.{Run}
-use Rattle.runs.specs.declared.Fed.{Fed}
 use Rattle.runs.specs.Pieces.{keptBy, restOf, padded, after, told, opening, linesBy, cutOf, cutBy, fedText, fedRun, closedText, closedRun, Gives}
 use Rattle.runs.proofs.Laying.{opening-fits, first-laid, laid-on, gives-made}
 

@@ -1,12 +1,12 @@
 -- Texts laid first in a buffer: what stands first, the kept bytes and a piece, and the lines behind them.
 -- Assumes nothing.
-use Prim.Native.Nat.{ℕ, _+_, _*_, _-_, _/_, _%_, _^_, _<_, _≤_, min}
-use mathlib.Core.Path.{_≡_, refl, sym, ap, ap₂, _∙_, subst}
-use mathlib.Core.Bool.{Bool, true, false, cond}
-use mathlib.Core.List.{List, [], _∷_, _++_}
+use Prim.Native.Nat.{ℕ, _+_, _*_, _-_, _/_, _<_, _≤_, min}
+use mathlib.Core.Path.{_≡_, sym, ap, ap₂, _∙_}
+use mathlib.Core.Bool.{Bool}
+use mathlib.Core.List.{List, _++_}
 use native.Mathlib.Nat.{zero-add}
 use native.Mathlib.Omega.{arith}
-use borrow.Author.Tests.{le-leb, eq-eqb, ne-eqb}
+use borrow.Author.Tests.{le-leb}
 use lib.Dec.{eqb}
 use lib.ListN.{length, take, drop, replicate, length-append, length-drop, length-replicate, replicate-append-replicate}
 use lib.Seq.{take-append-seam, take-append-add, drop-append-le, drop-at, take-at, take-all}
@@ -14,7 +14,7 @@ use Rattle.laws.specs.Bools.{by-cases}
 use Rattle.laws.specs.Lists.{by-below}
 use Rattle.rows.specs.Rows.{rowAt}
 use Rattle.text.specs.declared.Text.{Text}
-use Rattle.text.specs.Texts.{textOf, bytesOf, headingBytes, refusedBytes, refusalBytes, laid, collected, usedAfter}
+use Rattle.text.specs.Texts.{textOf, bytesOf, refusedBytes, refusalBytes, laid, collected, usedAfter}
 use Rattle.text.proofs.Collecting.{bytes-of}
 use Rattle.text.proofs.Putting.{refusal-fits}
 use Rattle.lines.proofs.Order.{laid-laid, length-laid}

@@ -3,7 +3,7 @@
 use Prim.Native.Nat.{ℕ}
 use mathlib.Core.Path.{_≡_, sym, ap, _∙_}
 use mathlib.Core.List.{List}
-use lib.ListN.{length, take}
+use lib.ListN.{length}
 use Rattle.laws.specs.Lists.{by-equal}
 use Rattle.record.specs.declared.Saved.{Saved}
 use Rattle.record.proofs.Saving.{saves-once}

@@ -17,8 +17,6 @@ use Rattle.rules.specs.State.{State}
 use Rattle.rules.specs.Sound.{sound}
 use Rattle.rules.specs.Step.{stepDecoded}
 use Rattle.soundness.proofs.Kept.{boot-is-sound}
-use Rattle.book.specs.Answers.{answersOf, finalOf}
-use Rattle.saved.specs.Loading.{save}
 use Rattle.saved.proofs.Loading.{loaded-is-sound}
 use Rattle.engine.specs.declared.Engine.{Engine}
 use Rattle.engine.specs.Stands.{engineOf}
@@ -31,9 +29,8 @@ use Rattle.lines.specs.Inner.{innerAnswers, innerFinal}
 use Rattle.lines.specs.Output.{lastAfter, numbered, rowsIn}
 use Rattle.lines.proofs.Inner.{inner-rows-step, rows-keep}
 use Rattle.runs.specs.declared.Run.{Run}
-use Rattle.runs.specs.declared.Fed.{Fed}
 use Rattle.runs.specs.Whole.{Start, AtBoot, AtRecord, begun, taken, stateAfter, cutAnswer, answersTo, runText, runEnd}
-use Rattle.runs.specs.Pieces.{runAt, keptBy, restOf, after, told, opening, linesBy, cutOf, cutBy, fedText, fedRun, closedText, closedRun, Gives, Ends, Feeds, EndsAs}
+use Rattle.runs.specs.Pieces.{runAt, keptBy, restOf, after, told, opening, linesBy, cutOf, cutBy, fedText, fedRun, closedText, closedRun, Feeds, EndsAs}
 use Rattle.runs.proofs.Joining.{rest-length, rows-join, no-rows, kept-after, answers-join, final-join, answers-length, numbered-join}
 
 -- ---- the answers to all bytes, by the engine

@@ -13,7 +13,6 @@ use Rattle.saved.specs.Loading.{load, save}
 use Rattle.engine.specs.declared.Engine.{Engine}
 use Rattle.engine.specs.Stands.{engineOf}
 use Rattle.turns.specs.Turning.{partModel}
-use Rattle.kernel.specs.declared.Kernel.{Kernel}
 use Rattle.record.specs.declared.Saved.{Saved}
 use Rattle.record.specs.Records.{savedOf, Saves}
 use Rattle.text.specs.Texts.{headingBytes, refusalBytes, laid}

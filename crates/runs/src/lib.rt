@@ -23,7 +23,7 @@ ghost use Rattle.text.specs.Texts.{laid, collected, usedAfter};
 ghost use Rattle.turns.specs.Turning.{partModel};
 ghost use Rattle.lines.specs.Output.{numbered, addLine, addedTo};
 ghost use Rattle.saved.specs.Loading.{load, save};
-ghost use Rattle.runs.specs.Whole.{Start, AtBoot, AtRecord};
+ghost use Rattle.runs.specs.Whole.{AtBoot, AtRecord};
 ghost use Rattle.runs.specs.Pieces.{runOf, runAt, opening, cutOf, fedRun, fedText, closedRun, closedText, Gives, Ends, againOf};
 
 // A run between two pieces: the engine, the number of the last line, whether the heading or the line of a refused start is written, the bytes of a

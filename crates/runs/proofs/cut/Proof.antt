@@ -1,12 +1,10 @@
 -- `cut` meets its contract: no line, or that of a row that is cut short. Assumes nothing.
-use Prim.Native.Nat.{_≤_}
-use mathlib.Core.Path.{_≡_, refl, ap, _∙_}
+use mathlib.Core.Path.{refl, ap, _∙_}
 use native.Mathlib.Omega.{arith}
-use lib.ListN.{length, length-append}
+use lib.ListN.{length-append}
 use borrow.Author.Needs.{needs}
 use borrow.Author.Tests.{eq-eqb, ne-eqb}
-use Rattle.text.specs.Texts.{lineBytes}
-use Rattle.lines.specs.Output.{numbered, next, addLine, addedTo}
+use Rattle.lines.specs.Output.{numbered, addLine, addedTo}
 use Rattle.runs.specs.Pieces.{cutOf}
 use Rattle.runs.proofs.cut.Statement.{statement}
 use Rattle.runs.proofs.cut.Tie as tie

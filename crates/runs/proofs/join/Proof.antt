@@ -1,10 +1,9 @@
 -- `join` meets its contract: the kept bytes are laid first, and those of the piece behind them. Assumes nothing.
-use Prim.Native.Nat.{_+_, _≤_, min}
+use Prim.Native.Nat.{_≤_, min}
 use mathlib.Core.Path.{_≡_, sym, ap, _∙_}
-use mathlib.Core.List.{_++_}
 use native.Mathlib.Omega.{arith}
 use lib.ListN.{length, take, length-append, length-take}
-use lib.Seq.{length-take-le, take-all}
+use lib.Seq.{length-take-le}
 use borrow.Author.Needs.{needs}
 use Rattle.runs.proofs.Laying.{take-least, joined-laid}
 use Rattle.runs.proofs.join.Statement.{statement}

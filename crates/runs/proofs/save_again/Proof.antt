@@ -1,5 +1,5 @@
 -- `save_again` meets its contract by those of `load` and `save`: what load hands back is sound. Assumes nothing.
-use mathlib.Core.Path.{_≡_, refl, ap, _∙_}
+use mathlib.Core.Path.{ap}
 use borrow.Author.Needs.{needs}
 use Rattle.record.specs.declared.Loaded.{Loaded}
 use Rattle.saved.specs.Loading.{load}
