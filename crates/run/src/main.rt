@@ -4,7 +4,8 @@
 //     run [CALLS]            from boot; the calls of standard input where no file is named
 //     run CALLS START END    from the record in START, or `boot`; the last record goes to END, or nowhere for `-`
 //
-// Of a START that is refused the text is one line, and END is not written. END is opened when all calls are answered and its record is made.
+// Of a START that is refused the text is one line: CALLS is not read, and END is not written. END is opened when all calls are answered and its record
+// is made.
 use files::argument;
 use files::fill;
 use files::open_input;
@@ -144,11 +145,15 @@ fn run_between() {
         return;
     }
     let first = start.run;
-    let work = run_file(first);
-    let run = work.run;
-    if work.failed || run.answer() != 0 {
+    if first.answer() != 0 {
+        close(first);
         return;
     }
+    let work = run_file(first);
+    if work.failed {
+        return;
+    }
+    let run = work.run;
     let mut path = io::buffer();
     let word = argument(3, &mut path);
     if !word.whole {
