@@ -1,5 +1,5 @@
 /* measure SETUP LOOP REPEATS: nanoseconds for each call of a mix, whose rows are in two binary files.
-   Where PROVED_KERNEL names a function of the proved kernel's static library, the calls are that one's, else the plain kernel's. */
+   With PROVED_KERNEL the calls are those of the proved kernel's static library, in place, or by value with BY_VALUE too; else of the plain one. */
 #define _POSIX_C_SOURCE 200809L
 
 #include "kernel.h"
@@ -48,14 +48,20 @@ static void report(double took, double calls, uint64_t checksum)
 
 #ifdef PROVED_KERNEL
 
+#ifdef BY_VALUE
+#define PROVED run_rows_by_value
+#else
+#define PROVED run_rows
+#endif
+
 /* The proved kernel, from boot: the setup once, the rows so often, and the sum of the answers to these. */
-uint64_t PROVED_KERNEL(const uint8_t *setup, size_t setup_length, const uint8_t *rows, size_t length, uint64_t repeats);
+uint64_t PROVED(const uint8_t *setup, size_t setup_length, const uint8_t *rows, size_t length, uint64_t repeats);
 
 /* Runs the setup once and the loop so often, and prints the time; what is refused shows in the checksum. */
 static bool measure(const struct rows *setup, const struct rows *loop, unsigned long repeats)
 {
     double began = now();
-    uint64_t checksum = PROVED_KERNEL(setup->row[0], setup->count * ROW, loop->row[0], loop->count * ROW, repeats);
+    uint64_t checksum = PROVED(setup->row[0], setup->count * ROW, loop->row[0], loop->count * ROW, repeats);
 
     report(now() - began, (double)loop->count * (double)repeats, checksum);
     return true;
