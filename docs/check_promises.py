@@ -21,7 +21,9 @@ from shapes import Function, one_result
 PAGE = TOP / "docs" / "PROMISES.md"
 HEADING = "| Function | Promise | One result by | Rules out |"
 # What others may cite of the wheel: its structs, its promise, and how the prover reads the parameters of a call of its functions.
-WHEEL = re.compile(r"Rattle\.wheel\.(specs\.(declared\.\w+(\.the-variants)?|Hung|Promise)|proofs\.(Promise|\w+\.\w+\.Reads))(\.\{| as )")
+WHEEL = re.compile(r"Rattle\.wheel\.((specs\.(declared\.\w+|Hung|Promise)|proofs\.Promise)\.\{|(specs\.Hung|proofs\.Promise) as |proofs\.\w+\.\w+\.Reads as )")
+# Names of its inside: what stands behind the promise's names, and the fields of its structs.
+INSIDE = re.compile(r"\bOpened\b|\.(spokes|turns|spoke|ids)\b")
 OUTSIDE = ("files", "stored")
 OPEN = "open: it speaks to the system, which decides"
 WRONGS: List[Wrong] = list(wrongs())
@@ -139,9 +141,13 @@ def check_wheel() -> List[Tuple[str, bool]]:
             continue
         for file in sorted((TOP / "crates" / crate).rglob("*")):
             if file.suffix in (".antt", ".rt"):
-                for line in file.read_text(encoding="utf-8").splitlines():
-                    if "Rattle.wheel." in line:
-                        results.append(("%s cites %s" % (file.relative_to(TOP), line), WHEEL.search(line) is not None))
+                lines = file.read_text(encoding="utf-8").splitlines()
+                cites = [line for line in lines if "Rattle.wheel." in line]
+                for line in cites:
+                    results.append(("%s cites %s" % (file.relative_to(TOP), line), WHEEL.search(line) is not None))
+                for line in lines if cites else []:
+                    if INSIDE.search(line):
+                        results.append(("%s looks into the wheel: %s" % (file.relative_to(TOP), line), False))
     return results
 
 

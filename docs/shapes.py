@@ -1,8 +1,9 @@
 """Reads the shape of a promise: which results it determines, and by which theorem.
 
 A function's results are what it returns and each buffer that it is lent to change. A promise is a list of clauses. A clause is taken apart at its outermost
-signs: a pair of facts is each of them, a fact for every value of a variable is that fact, and a fact under a condition determines nothing. What is left is an
-equation, an equivalence or a relation. It determines the results that its left side, or its place in the relation, names whole, if the other side names none.
+signs: a pair of facts is each of them, a fact for every value of a variable is that fact, and a fact under a condition, or of some value that is not named
+further, determines nothing. What is left is an equation, an equivalence or a relation. It determines the results that its left side, or their places in the
+relation, name whole, if nothing else of it names one.
 """
 
 from __future__ import annotations
@@ -12,8 +13,15 @@ from dataclasses import dataclass
 from typing import Dict, FrozenSet, Iterator, List, Mapping, Optional, Sequence, Set, Tuple
 
 RETURNED = "r"
-# A relation that is a record of its own: which of its arguments are results, and the theorem that it allows one of each only.
-RELATIONS: Mapping[str, str] = {"Steps": "steps-once", "Saves": "saves-once", "Gives": "gives-once", "Ends": "ends-once"}
+# A relation that is a record of its own: which of its arguments are results, counted from 0, and the theorem that it allows one of each only.
+RELATIONS: Mapping[str, Tuple[Tuple[int, ...], str]] = {
+    "Steps": ((2,), "steps-once"),
+    "Saves": ((2, 3), "saves-once"),
+    "Gives": ((3, 4), "gives-once"),
+    "Ends": ((2, 3), "ends-once"),
+}
+# Types that have values, so that what holds for every value of one holds.
+INHABITED = ("Clock", "Counts", "State")
 # An array that was lent, or is returned, read as what it stands for, and the theorem that one array does so.
 READINGS: Mapping[str, str] = {"schedulerIn": "bytes-once", "signalledIn": "signalled-once", "steppedIn": "stepped-once"}
 # A name for several values as one, which determines each of them.
@@ -72,8 +80,14 @@ def closing(text: str) -> int:
 
 
 def is_variable(part: str) -> bool:
-    """Whether what stands before an arrow is a variable of some type, and no condition."""
-    return re.fullmatch(r"\((\w+ )+: [\w .]+\)", part.strip()) is not None
+    """Whether what stands before an arrow is a variable of a type that has values, and no condition."""
+    found = re.fullmatch(r"\((?:\w+ )+: (\w+)\)", part.strip())
+    return found is not None and found.group(1) in INHABITED
+
+
+def is_some(part: str) -> bool:
+    """Whether a part of a pair says that there is some value, for which the rest then holds."""
+    return re.fullmatch(r"\((?:\w+ )+: .*\)", part.strip()) is not None
 
 
 def facts(clause: str) -> Iterator[str]:
@@ -86,7 +100,7 @@ def facts(clause: str) -> Iterator[str]:
         return
     parts = split_top(text, "×")
     if len(parts) > 1:
-        for part in parts:
+        for part in parts if not any(is_some(part) for part in parts) else []:
             yield from facts(part)
         return
     yield text
@@ -138,6 +152,17 @@ def by_equation(left: str, right: str, function: Function) -> Optional[Determine
     return None
 
 
+def by_relation(words: Sequence[str], function: Function) -> Optional[Determined]:
+    """What a relation determines: the results at its places for results, if each is one and none stands elsewhere."""
+    places, theorem = RELATIONS[words[0]]
+    named = [result_named(word, function) for at, word in enumerate(words[1:]) if at in places]
+    others = [word for at, word in enumerate(words[1:]) if at not in places]
+    results = frozenset(name for name in named if name is not None)
+    if len(results) < len(places) or any(mentions(word, function) for word in others):
+        return None
+    return Determined(results, theorem)
+
+
 def determined(fact: str, function: Function) -> Optional[Determined]:
     """What one fact determines."""
     sides = split_top(fact, "↔")
@@ -147,10 +172,7 @@ def determined(fact: str, function: Function) -> Optional[Determined]:
     if len(sides) == 2:
         return by_equation(sides[0], sides[1], function)
     words = arguments(fact)
-    if words and words[0] in RELATIONS:
-        named = [result_named(word, function) for word in words[1:]]
-        return Determined(frozenset(name for name in named if name is not None), RELATIONS[words[0]])
-    return None
+    return by_relation(words, function) if words and words[0] in RELATIONS else None
 
 
 def is_covered(result: str, known: Set[str], function: Function, fields: Mapping[str, Sequence[str]]) -> bool:

@@ -38,6 +38,12 @@ CASES: Sequence[Tuple[str, Tuple[str, ...], Tuple[str, ...], str]] = (
     ("Stepped", (), ("Steps self (Taken Start) r",), "`steps-once`"),
     ("Saved", ("buffer",), ("Saves kernel (now (buffer .entry)) r (now (buffer .exit))",), "`saves-once`"),
     ("Saved", ("buffer",), ("Saves kernel (now (buffer .entry)) r (now (buffer .entry))",), ""),
+    ("Saved", ("buffer",), ("Saves kernel (now (buffer .exit)) r (now (buffer .entry))",), ""),
+    ("Stepped", (), ("Steps r (Taken Start) self",), ""),
+    ("Stepped", (), ("Steps r (Taken Start) r",), ""),
+    ("u8", (), ("(x : ℕ) × (r ≡ model x)",), ""),
+    ("u8", (), ("((g : Good h) → r ≡ model x)",), ""),
+    ("u8", (), ("((w : SoundKernel x) → r ≡ model x)",), ""),
     ("u8", (), (), ""),
 )
 

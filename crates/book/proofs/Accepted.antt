@@ -1,19 +1,18 @@
 -- A step of a sound state by its answer: accepted, with every test passed, or refused; and what the choice of the next thread leaves as it was.
 -- Assumes nothing.
-use Prim.Native.Nat.{ℕ}
-use mathlib.Core.Path.{_≡_, sym, ap, _∙_}
-use mathlib.Core.Bool.{Bool, true, false, cond}
+use mathlib.Core.Path.{_≡_, ap, _∙_}
+use mathlib.Core.Bool.{true, false}
 use lib.Dec.{eqb}
 use borrow.Author.Tests.{eqb-true}
 use Rattle.laws.specs.Bools.{by-cases, cond-true, cond-false}
 use Rattle.calls.specs.declared.Call.{Call}
 use Rattle.calls.specs.Answers.{numberOf}
-use Rattle.rules.specs.State.{Scheduler, State}
+use Rattle.rules.specs.State.{State}
 use Rattle.rules.specs.Next.{chooseNext}
 use Rattle.rules.specs.Effects.{withScheduler, effect}
 use Rattle.rules.specs.Refusals.{tests, verdictOf}
 use Rattle.rules.specs.Sound.{sound}
-use Rattle.rules.specs.Step.{Stepped, isTick, after, runner, accepted, refused, stepSound, step}
+use Rattle.rules.specs.Step.{isTick, after, runner, accepted, refused, stepSound, step}
 use Rattle.soundness.proofs.Keeping.{Clear, passed}
 use Rattle.soundness.proofs.Kept.{sound-steps}
 

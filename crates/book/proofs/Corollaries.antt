@@ -1,38 +1,24 @@
 -- What follows at all times: no ready thread stands above the running one; every thread is in exactly one place; a waiter on a condition
 -- variable that becomes ready owns its mutex.
 -- Assumes nothing.
-use Prim.Native.Nat.{ℕ, _+_, _-_, _<_, _≤_}
+use Prim.Native.Nat.{ℕ, _<_, _≤_}
 use mathlib.Core.Path.{_≡_, refl, sym, ap, ap₂, _∙_, subst}
-use mathlib.Core.Bool.{Bool, true, false, cond, _&&_, false≢true}
-use mathlib.Core.List.{List, [], _∷_}
+use mathlib.Core.Bool.{true, false, false≢true}
+use mathlib.Core.List.{List}
 use native.Mathlib.Omega.{arith}
-use lib.ListN.{length, length-set, length-map, length-append, List·getD-map, List·getD-append}
-use lib.Seq.{getD-set-same, getD-set-other}
-use lib.Dec.{eqb, leb}
-use borrow.Author.Tests.{eqb-true, eqb-false, eq-eqb, ne-eqb, leb-false}
-use Rattle.laws.specs.Bools.{by-cases, no-way, nor-left, and-true, and-false, cond-true, cond-false}
-use Rattle.laws.specs.Lists.{by-equal}
-use Rattle.units.specs.Units.{ticksIn}
+use lib.ListN.{length}
+use Rattle.laws.specs.Bools.{by-cases}
 use Rattle.calls.specs.declared.Call.{Call}
 use Rattle.calls.specs.declared.Decoded.{Decoded}
-use Rattle.calls.specs.declared.Call.the-variants.{Start, CreateThread, CreateMutex, CreateCondition, CreateTimer, Acquire, Release, Wait, Signal, Broadcast, StartTimer, StopTimer, Tick}
-use Rattle.calls.specs.declared.Kind.{Kind}
-use Rattle.calls.specs.declared.Kind.the-variants.{OneShot, Periodic}
-use Rattle.calls.specs.Answers.{numberOf}
-use Rattle.units.specs.declared.Micros.{Micros}
 use Rattle.rules.specs.Queues.{queue}
-use Rattle.rules.specs.State.{Where, running, ready, onCondition, same, waits, Thread, Timer, Rows, State, stoppedTimer, thread, mutex, tied, timer, at, priority, setAt}
-use Rattle.rules.specs.Next.{chooseNext}
-use Rattle.rules.specs.Effects.{goes, stateOf, isDue, afterDue, ticked, withScheduler, effect}
-use Rattle.rules.specs.Refusals.{tests, verdictOf}
+use Rattle.rules.specs.State.{Where, running, ready, onCondition, same, waits, Thread, Rows, State, thread, mutex, tied, at, priority, setAt}
 use Rattle.rules.specs.Sound.{mem, sound}
-use Rattle.rules.specs.Step.{Stepped, isTick, after, runner, accepted, refused, stepSound, step}
+use Rattle.rules.specs.Step.{runner, step}
 use Rattle.soundness.proofs.Fits.{here, here-prio, there}
 use Rattle.soundness.proofs.Rows.{Real, standing-exists}
 use Rattle.soundness.proofs.Facts.{Sound}
 use Rattle.soundness.proofs.Tested.{sound-facts}
-use Rattle.soundness.proofs.Keeping.{Clear, passed}
-use Rattle.soundness.proofs.Kept.{sound-steps, soundness-is-kept, none-ready-above}
+use Rattle.soundness.proofs.Kept.{sound-steps, none-ready-above}
 use Rattle.pages.proofs.Places.{same-running, stands-at, at-stands}
 use Rattle.rules.specs.Page.{pageOf}
 use Rattle.book.specs.Book.{Book, standsAt}

@@ -3,7 +3,7 @@
 -- Assumes nothing.
 use Prim.Native.Nat.{ℕ, zero, suc, _+_, _-_, _*_, _<_, _≤_}
 use mathlib.Core.Path.{_≡_, refl, sym, ap, ap₂, _∙_, subst}
-use mathlib.Core.Bool.{Bool, true, false, cond, _&&_, _||_}
+use mathlib.Core.Bool.{Bool, true, false, cond, _&&_}
 use mathlib.Core.List.{List, [], _∷_, map}
 use native.Mathlib.Nat.{zero-add}
 use native.Mathlib.Omega.{arith}
@@ -11,11 +11,10 @@ use lib.ListN.{length, length-set, length-map, length-append, List·getD-map, Li
 use lib.Seq.{getD-set-same, getD-set-other}
 use lib.Dec.{eqb, leb}
 use borrow.Author.Tests.{eqb-false, eq-eqb, ne-eqb, leb-false}
-use Rattle.laws.specs.Bools.{by-cases, no-way, nor-left, and-true, and-false, self}
+use Rattle.laws.specs.Bools.{by-cases, no-way, nor-left, and-true, and-false}
 use Rattle.laws.specs.Lists.{by-equal}
 use Rattle.units.specs.Units.{ticksIn}
 use Rattle.units.specs.declared.Micros.{Micros}
-use Rattle.calls.specs.declared.Answer.{Answer}
 use Rattle.calls.specs.declared.Call.{Call}
 use Rattle.calls.specs.declared.Call.the-variants.{Start, CreateThread, CreateMutex, CreateCondition, CreateTimer, Acquire, Release, Wait, Signal, Broadcast, StartTimer, StopTimer, Tick}
 use Rattle.calls.specs.declared.Decoded.{Decoded}
@@ -23,7 +22,7 @@ use Rattle.calls.specs.declared.Decoded.the-variants.{Taken, WrongForm}
 use Rattle.calls.specs.declared.Kind.{Kind}
 use Rattle.calls.specs.declared.Kind.the-variants.{OneShot, Periodic}
 use Rattle.calls.specs.Answers.{numberOf}
-use Rattle.rules.specs.State.{TimerState, periodic, Timer, State, stoppedTimer, timer}
+use Rattle.rules.specs.State.{periodic, Timer, State, stoppedTimer, timer}
 use Rattle.rules.specs.Effects.{goes, stateOf, isDue, afterDue, ticked, dueConditions, signalledEach, effect, given}
 use Rattle.rules.specs.Refusals.{tests, verdictOf}
 use Rattle.rules.specs.Sound.{mem, sound}

@@ -1,9 +1,9 @@
 -- One row: from the same state and book the answers are equal, and the state and the book that follow are the same.
 -- Assumes nothing.
-use Prim.Native.Nat.{ℕ, _%_}
+use Prim.Native.Nat.{_%_}
 use mathlib.Core.Path.{_≡_, refl, sym, ap, ap₂, _∙_, subst}
 use mathlib.Core.Bool.{Bool, true, false, cond}
-use mathlib.Core.List.{List, map}
+use mathlib.Core.List.{map}
 use lib.Dec.{eqb}
 use borrow.Author.Tests.{eqb-true}
 use Rattle.laws.specs.Bools.{by-cases, cond-true, cond-false}
@@ -13,7 +13,6 @@ use Rattle.calls.specs.declared.Decoded.{Decoded}
 use Rattle.calls.specs.declared.Decoded.the-variants.{Taken, WrongForm}
 use Rattle.calls.specs.declared.Verdict.the-variants.{Done}
 use Rattle.calls.specs.Answers.{numberOf, nothing}
-use Rattle.calls.specs.Rows.{decoded}
 use Rattle.rules.specs.State.{State}
 use Rattle.rules.specs.Next.{chooseNext}
 use Rattle.rules.specs.Effects.{withScheduler, given}

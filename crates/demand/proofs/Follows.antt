@@ -34,7 +34,7 @@ use Rattle.parts.specs.Models.{blank}
 use Rattle.meaning.specs.Stands.{threadIn, threadsOf, schedulerOf}
 use Rattle.engine.specs.Stands.{engineOf}
 use Rattle.book.specs.Answers.{answersOf, finalOf}
-use Rattle.book.specs.History.{ticksTaken, NeverStops, expiring, Expires, Table, threads, mutexes, conditions, timers, size, idsGiven, upFrom}
+use Rattle.book.specs.History.{ticksTaken, NeverStops, Expires, Table, threads, mutexes, conditions, timers, size, idsGiven, upFrom}
 use Rattle.book.proofs.Accepted.{by-answer}
 use Rattle.book.proofs.Demand.{rows-keep}
 use Rattle.book.proofs.Expiry.{tick-expires, expires-at-its-tick, expires-again}
@@ -45,7 +45,7 @@ use Rattle.kernel.specs.declared.Stepped.{Stepped}
 use Rattle.kernel.specs.Kernels.{kernelOf, SoundKernel, steppedOf, Steps}
 use Rattle.kernel.proofs.Sound.{state-sound, sound-state}
 use Rattle.demand.specs.Repeated.{Repeats}
-use Rattle.demand.specs.Follows.{rowAt, NoneAbove, sizeIn, NobodyWaits, Ticks}
+use Rattle.demand.specs.Follows.{rowAt, NoneAbove, sizeIn, NobodyWaits, TickGives}
 use Rattle.demand.proofs.Demand.{rows-step}
 
 -- ---- the rows of a kernel are those of the state that it describes
@@ -155,7 +155,7 @@ kernel-broadcast-empties x w c r steps z =
 -- ---- when a timer expires
 
 -- an accepted tick of the kernel of a sound state
-tick-told : (s : State) → sound s ≡ true → (y : Kernel) → y ≡ kernelOf s → (i c : ℕ) (due : Bool) → Expires s i c due → (r : Stepped) → Steps y (Taken Tick) r → r .answer .number ≡ 0 → Ticks y r i c due
+tick-told : (s : State) → sound s ≡ true → (y : Kernel) → y ≡ kernelOf s → (i c : ℕ) (due : Bool) → Expires s i c due → (r : Stepped) → Steps y (Taken Tick) r → r .answer .number ≡ 0 → TickGives y r i c due
 tick-told s e y d i c due told r steps z = by-answer s e Tick
     (λ p k. let is : r ≡ steppedOf (accepted s Tick) = first ∙ ap steppedOf p in record {
       state = s;
@@ -192,19 +192,19 @@ module _ (x : Kernel) (w : SoundKernel x) (i c : ℕ) (v : Micros) where
     -- at the nth accepted tick after its start, unless it is stopped first, a timer set for n ticks is among those that given counts and its condition
     -- variable is signalled, and not before
     pub kernel-timer-expires : (rows : List Decoded) (answers : List Answer) (y : Kernel) → Repeats (r .kernel) rows answers y → NeverStops i rows → ticksTaken rows answers < ticksIn (v .0)
-        → (q : Stepped) → Steps y (Taken Tick) q → q .answer .number ≡ 0 → Ticks y q i c (eqb (ticksTaken rows answers + 1) (ticksIn (v .0)))
+        → (q : Stepped) → Steps y (Taken Tick) q → q .answer .number ≡ 0 → TickGives y q i c (eqb (ticksTaken rows answers + 1) (ticksIn (v .0)))
     kernel-timer-expires rows answers y run never few q steps z =
         let ends = after-start rows answers y run in
         let past = ap (ticksTaken rows) (ends .0) in
         let told = expires-at-its-tick (sound-state x w .0) (sound-state x w .1) i c v kind start-taken rows never (subst (λ n. n < ticksIn (v .0)) past few) in
-        subst (λ n. Ticks y q i c (eqb (n + 1) (ticksIn (v .0)))) (sym past)
+        subst (λ n. TickGives y q i c (eqb (n + 1) (ticksIn (v .0)))) (sym past)
         (tick-told (finalOf (started kind) rows) (rows-keep (started kind) start-sound rows) y (ends .1) i c _ told q steps z)
 
   -- and a periodic one again n accepted ticks later, each time, and at none between
   pub kernel-timer-expires-again : (r : Stepped) → Steps x (Taken (StartTimer i c Periodic v)) r → r .answer .number ≡ 0
       → (rows : List Decoded) (answers : List Answer) (y : Kernel) → Repeats (r .kernel) rows answers y → NeverStops i rows
       → (turns k : ℕ) → k < ticksIn (v .0) → ticksTaken rows answers ≡ turns * ticksIn (v .0) + k
-      → (q : Stepped) → Steps y (Taken Tick) q → q .answer .number ≡ 0 → Ticks y q i c (eqb (k + 1) (ticksIn (v .0)))
+      → (q : Stepped) → Steps y (Taken Tick) q → q .answer .number ≡ 0 → TickGives y q i c (eqb (k + 1) (ticksIn (v .0)))
   kernel-timer-expires-again r begins taken rows answers y run never turns k less total q steps z =
       let ends = after-start Periodic r begins taken rows answers y run in
       let told = expires-again (sound-state x w .0) (sound-state x w .1) i c v (start-taken Periodic r begins taken) rows never turns k less (sym (ap (ticksTaken rows) (ends .0)) ∙ total) in

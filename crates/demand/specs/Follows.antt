@@ -1,10 +1,10 @@
--- What follows for the kernel of the code, in words of its own rows, counts and answers: who runs, which ids are given, whom a broadcast leaves, and
--- when a timer expires. The theorems stand in proofs/Follows.
+-- What follows for the kernel of the code: who runs, which ids are given and whom a broadcast leaves, in words of its own rows, counts and answers; and
+-- when a timer expires, in words of the one state that the kernel describes. The theorems stand in proofs/Follows.
 -- Assumes nothing.
 use Prim.Native.Nat.{ℕ, _<_, _≤_}
 use mathlib.Core.Path.{_≡_}
 use mathlib.Core.Bool.{Bool, true}
-use mathlib.Core.List.{List, map}
+use mathlib.Core.List.{map}
 use lib.ListN.{length}
 use Rattle.calls.specs.declared.Call.the-variants.{Tick}
 use Rattle.rules.specs.State.{State, timer}
@@ -40,7 +40,7 @@ pub record NobodyWaits (x : Kernel) (c : ℕ) : Type 0 where
 
 -- an accepted tick of kernel y gives r, and timer i, of condition variable c, is among those that it expires, or is not: given counts those that it
 -- expires, and each of them signals its condition variable, in order of id, before the next thread is chosen
-pub record Ticks (y : Kernel) (r : Stepped) (i c : ℕ) (due : Bool) : Type 0 where
+pub record TickGives (y : Kernel) (r : Stepped) (i c : ℕ) (due : Bool) : Type 0 where
   pub state : State
   pub right : sound state ≡ true
   pub describes : y ≡ kernelOf state

@@ -14,7 +14,6 @@ use Rattle.soundness.proofs.Tested.{sound-facts}
 use Rattle.pages.proofs.Pages.{page-of-sound, described-is-sound}
 use Rattle.engine.specs.declared.Engine.{Engine}
 use Rattle.engine.specs.Stands.{engineOf}
-use Rattle.page.specs.declared.Page as written
 use Rattle.page.specs.Says.{said, pageFor}
 use Rattle.page.proofs.Says.{Fits, said-for}
 use Rattle.describe.specs.Models.{describeModel}

@@ -18,9 +18,9 @@ use Rattle.parts.specs.Models.{headModel, leaveModelIn}
 use Rattle.scheduler.specs.declared.Mutex as scheduler
 use Rattle.scheduler.specs.declared.Scheduler as scheduled
 use Rattle.scheduler.specs.Models as models
-use Rattle.scheduler.specs.Models.{mutexOf, withForMutex, withOnCondition, forMutexOf, onConditionOf, ownModel, recountModel, waitForModel, waitOnModel, readyModel, passToModel, passModel, acquireModel, releaseModel, waitModel}
+use Rattle.scheduler.specs.Models.{mutexOf, forMutexOf, ownModel, recountModel, waitForModel, waitOnModel, readyModel, passToModel, passModel, acquireModel, releaseModel, waitModel}
 use Rattle.rules.specs.Queues.{First, nobody, somebody, toBack, firstLeaves}
-use Rattle.rules.specs.State.{Where, running, ready, forMutex, onCondition, waits, Scheduler, thread, mutex, tied, priority, withRows, stand, own, tie, setAt, putSet, firstAt, arrive, depart}
+use Rattle.rules.specs.State.{Where, running, ready, forMutex, onCondition, waits, Scheduler, thread, mutex, priority, withRows, stand, own, tie, setAt, putSet, firstAt, arrive, depart}
 use Rattle.rules.specs.Page.{stateCode, objectCode}
 use Rattle.rules.specs.Effects.{acquired, passedTo, released, waited}
 use Rattle.soundness.proofs.Fits.{first-queue}

@@ -1,6 +1,6 @@
 -- What the scheduler's functions do to the value that describes a scheduler is what document 01's calls do: a new thread, mutex or condition variable.
 -- Assumes nothing.
-use Prim.Native.Nat.{ℕ, _+_, _%_, _<_, _≤_}
+use Prim.Native.Nat.{ℕ, _%_, _<_, _≤_}
 use mathlib.Core.Path.{_≡_, refl, sym, ap, ap₂, _∙_}
 use mathlib.Core.Logic.{_≢_}
 use mathlib.Core.List.{List, [], _∷_, _++_, flatten, append-assoc, append-nil}
@@ -11,7 +11,6 @@ use borrow.Author.Tests.{eqb-true}
 use Rattle.laws.specs.Bools.{by-cases, self}
 use Rattle.laws.specs.Lists.{tabulate, tabulate-same, set-tabulate, tabulate-below}
 use Rattle.queue.specs.Stands.{after, linkOf, linksOf, queuesOf}
-use Rattle.parts.specs.declared.Thread as parts
 use Rattle.parts.specs.Models.{withRow}
 use Rattle.scheduler.specs.declared.Mutex as scheduler
 use Rattle.scheduler.specs.Models as models

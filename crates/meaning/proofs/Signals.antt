@@ -1,7 +1,7 @@
 -- What the scheduler's functions do to the value that describes a scheduler is what document 01's calls do: signals, and the
 -- choice of the next thread.
 -- Assumes nothing.
-use Prim.Native.Nat.{ℕ, zero, suc, _+_, _-_, _%_, _<_, _≤_}
+use Prim.Native.Nat.{ℕ, zero, suc, _+_, _%_, _<_, _≤_}
 use mathlib.Core.Path.{_≡_, refl, sym, ap, ap₂, _∙_}
 use mathlib.Core.Bool.{Bool, true, cond}
 use native.Mathlib.Omega.{arith}
@@ -13,7 +13,6 @@ use Rattle.laws.specs.Lists.{tabulate}
 use Rattle.queue.specs.Stands.{queuesOf}
 use Rattle.parts.specs.declared.Head.{Head}
 use Rattle.parts.specs.declared.Waiting.{Waiting}
-use Rattle.parts.specs.Models as parts
 use Rattle.parts.specs.Models.{headModel, leaveModelIn}
 use Rattle.scheduler.specs.declared.Mutex as scheduler
 use Rattle.scheduler.specs.declared.Scheduler as scheduled

@@ -1,6 +1,6 @@
 -- What others may cite of the wheel: a name for what each operation makes of any wheel whatever, and for the one wheel that hangs as ticks left say.
--- The names are shut: what stands behind them is the wheel's own (Inside.antt), and nobody else can open them. The laws that tell all there is
--- to know of them are in proofs/Promise.antt. Opened, below, is for the wheel's own proofs.
+-- The names are shut: what stands behind them is the wheel's own (Inside.antt), and nothing outside unfolds them. The laws that others cite of
+-- them are in proofs/Promise.antt. Opened, below, says what stands behind each, for the wheel's own proofs; docs/check_promises.py refuses it elsewhere.
 -- Assumes nothing.
 pub mod Opened
 use Prim.Native.Nat.{ℕ}
