@@ -1,7 +1,7 @@
 pub mod Laying
 pub mod Feeding
 pub mod Once
-pub mod Met
+pub mod Existing
 pub mod Joining
 pub mod Pieces
 pub mod Shown
