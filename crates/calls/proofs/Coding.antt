@@ -42,11 +42,6 @@ row-bytes code a b kind v p q r s t =
 v-again : (code a b kind v : ℕ) → vOf (rowWith code a b kind v) ≡ v
 v-again code a b kind v = omega arith
 
-kind-again : (kind : Kind) → kindOf (kindNumber kind) ≡ kind
-unfolding kindOf
-kind-again OneShot = refl
-kind-again Periodic = refl
-
 -- a start of a timer names all fields
 start-again : (i c : ℕ) (kind : Kind) (v : ℕ) → decoded (rowWith 11 i c (kindNumber kind) v) ≡ Taken (StartTimer i c kind (record { 0 = v }))
 unfolding decoded byCode taken fits kindOf
