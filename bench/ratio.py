@@ -2,8 +2,10 @@
 one by value, all as x86-64 programs in one run.
 Then the run program against one of plain C on files of the same mixes: rows a second, reading and writing included.
 
-python3 bench/ratio.py [ROUNDS]. Each mix is measured ROUNDS times on each side, in turn, and the best of each side counts.
+python3 bench/ratio.py LIBRARY [ROUNDS]. LIBRARY is the static library of `tally`, and the run program is target/bin/run; `./tehuamozo bench` proves and
+builds both. Each mix is measured ROUNDS times on each side, in turn, and the best of each side counts. On a terminal it is said what is being measured.
 """
+import os
 import pathlib
 import re
 import subprocess
@@ -15,6 +17,15 @@ HERE = pathlib.Path(__file__).resolve().parent
 SIDES = ("measure", "measure-in-place", "measure-by-value")
 MIXES = ("rotate", "timers", "acquire", "pingpong", "broadcast")
 CALLS = 400_000
+ROUNDS = 5
+WIDTH = 60
+
+
+def tell(words: str) -> None:
+    """What is being done, on one line of a terminal, which is rewritten; no words clear it."""
+    if os.isatty(2):
+        line = f"tehuamozo: {words}" if words else ""
+        print(f"\r{line:<{WIDTH}}", end="" if words else "\r", file=sys.stderr, flush=True)
 
 
 def run(words: list[str]) -> str:
@@ -38,7 +49,8 @@ def compare(sides: list[list[str]], mix: pathlib.Path, rounds: int) -> str:
     """One line of the table: the best of each side, in turn, plain C first; the checksums of all sides agree."""
     repeats = max(1, CALLS * 8 // pathlib.Path(f"{mix}.loop.bin").stat().st_size)
     best = [float("inf")] * len(sides)
-    for _ in range(rounds):
+    for turn in range(rounds):
+        tell(f"measuring {mix.name}, round {turn + 1} of {rounds}")
         sums = set()
         for side, command in enumerate(sides):
             took, checksum = measured(command, mix, repeats)
@@ -68,7 +80,8 @@ def compare_runs(plain: list[str], proved: list[str], mix: pathlib.Path, rounds:
     calls.write_bytes(pathlib.Path(f"{mix}.setup.bin").read_bytes() + loop * (CALLS * 8 // len(loop)))
     best = [float("inf"), float("inf")]
     texts = [mix.with_suffix(".plain"), mix.with_suffix(".proved")]
-    for _ in range(rounds):
+    for turn in range(rounds):
+        tell(f"measuring run on {mix.name}, round {turn + 1} of {rounds}")
         for side, command in enumerate((plain, proved)):
             best[side] = min(best[side], timed(command, calls, texts[side]))
     if texts[0].read_bytes() != texts[1].read_bytes():
@@ -77,23 +90,28 @@ def compare_runs(plain: list[str], proved: list[str], mix: pathlib.Path, rounds:
     return f"{mix.name:<10} {rows / best[0]:>12,.0f} {rows / best[1]:>12,.0f} {best[1] / best[0]:>8.1f}"
 
 
+def say(line: str) -> None:
+    """A line of a table."""
+    tell("")
+    print(line, flush=True)
+
+
 def main() -> None:
-    """Builds both sides and prints the two tables."""
-    rounds = int(sys.argv[1]) if len(sys.argv) > 1 else 5
-    run(["rt", "staticlib", "tally"])
-    run(["rt", "check", "run"])
+    """Builds plain C's side and prints the two tables."""
+    library = sys.argv[1]
+    rounds = int(sys.argv[2]) if len(sys.argv) > 2 else ROUNDS
+    tell("measuring soon: compiling plain C")
     with tempfile.TemporaryDirectory() as room:
-        library = HERE.parent / "target" / "staticlib" / "libtally.a"
-        start = run([str(HERE / "build"), room, str(library)]).splitlines()[-1].split(f"{room}/x86-64/")[0].split()
+        start = run([str(HERE / "build"), room, library]).splitlines()[-1].split(f"{room}/x86-64/")[0].split()
         run(["python3", str(HERE / "mixes.py"), "--write", f"{room}/mixes"])
-        print(f"{'mix':<10} {'C, ns':>10} {'in place, ns':>13} {'ratio':>8} {'by value, ns':>13} {'ratio':>8}")
+        say(f"{'mix':<10} {'C, ns':>10} {'in place, ns':>13} {'ratio':>8} {'by value, ns':>13} {'ratio':>8}")
         for name in MIXES:
             sides = [start + [f"{room}/x86-64/{program}"] for program in SIDES]
-            print(compare(sides, pathlib.Path(room) / "mixes" / name, rounds), flush=True)
-        print(f"\n{'run':<10} {'C, rows/s':>12} {'run, rows/s':>12} {'ratio':>8}")
+            say(compare(sides, pathlib.Path(room) / "mixes" / name, rounds))
+        say(f"\n{'run':<10} {'C, rows/s':>12} {'run, rows/s':>12} {'ratio':>8}")
         for name in MIXES:
             programs = [start + [f"{room}/x86-64/run"], start + [str(HERE.parent / "target" / "bin" / "run")]]
-            print(compare_runs(programs[0], programs[1], pathlib.Path(room) / "mixes" / name, rounds), flush=True)
+            say(compare_runs(programs[0], programs[1], pathlib.Path(room) / "mixes" / name, rounds))
 
 
 if __name__ == "__main__":

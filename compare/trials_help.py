@@ -1,0 +1,245 @@
+"""Trials of the door: help, wrong use, how far long work is, interrupts.
+
+Imported by door.py of this folder; it is no program.
+"""
+
+from __future__ import annotations
+
+import os
+import re
+import select
+import signal
+import subprocess
+import time
+from pathlib import Path
+from typing import Callable, List, Tuple
+
+from trying import (
+    RUN, SECONDS, Done, Terminal, Trial, begin, door, one_line, put,
+)
+
+# Longer than it takes until progress is said, once the run program writes.
+A_WHILE = 3
+WORDS = (
+    "run", "explain", "timeline", "record", "rows", "show", "axioms", "test",
+    "bench", "help",
+)
+# Document 01's calls with the fields it names.
+CALLS = (
+    "start", "create thread BASE", "create mutex CEILING",
+    "create condition variable", "create timer", "acquire MUTEX",
+    "release MUTEX", "wait CONDITION MUTEX", "signal CONDITION",
+    "broadcast CONDITION", "start timer TIMER CONDITION", "stop timer TIMER",
+    "tick",
+)
+# Of each answer number, a word or two of document 01's line on it.
+ANSWERS = (
+    "done", "not sound", "stopped", "started", "does not exist", "thread 0",
+    "outside", "full", "ceiling", "owner", "255", "another mutex", "tied",
+    "running", "stopped", "wrong form", "shorter", "wrong form",
+)
+
+
+def helps(room: Path) -> bool:
+    """help, --help, -h and nothing at all print every word and end well."""
+    done = [door(room, *words) for words in (["help"], ["--help"], ["-h"], [])]
+    names = all(f"tehuamozo {word}".encode() in done[0].text for word in WORDS)
+    return all(each == Done(0, done[0].text, b"") for each in done) and names
+
+
+def helps_on_word(room: Path) -> bool:
+    """help WORD and WORD --help tell of that word alone."""
+    first, second = door(room, "help", "record"), door(room, "record", "-h")
+    text = first.text
+    return first == second and b"record FILE" in text and b"rows" not in text
+
+
+def helps_on_calls(room: Path) -> bool:
+    """help calls has all thirteen calls with fields and bounds."""
+    done = door(room, "help", "calls")
+    found = all(call.encode() in done.text for call in CALLS)
+    bounds = all(
+        re.search(pattern, done.text) is not None
+        for pattern in (rb"BASE.*1 to 15", rb"CEILING.*1 to 15",
+                        rb"MUTEX.*0 to 15", rb"TIMER.*0 to 31")
+    )
+    return done.status == 0 and found and bounds
+
+
+def helps_on_answers(room: Path) -> bool:
+    """help answers has a line for each number, in document 01's words."""
+    done = door(room, "help", "answers")
+    lines = done.text.decode().splitlines()
+    return done.status == 0 and len(lines) == len(ANSWERS) and all(
+        line.split()[0] == str(number) and words in line
+        for number, (line, words) in enumerate(zip(lines, ANSWERS))
+    )
+
+
+def refuses(wrong: str, *words: str) -> Callable[[Path], bool]:
+    """Wrong use: what was wrong stands before the usage, on standard error,
+    and the exit status is 2."""
+
+    def tried(room: Path) -> bool:
+        put(room, "calls", RUN)
+        done = door(room, *words)
+        lines = done.said.decode().splitlines()
+        return (
+            done.status == 2 and done.text == b"" and wrong in lines[0]
+            and "usage:" in lines[1:] and os.listdir(room) == ["calls"]
+        )
+
+    return tried
+
+
+def long_run(
+    room: Path, stdout: int, stderr: int
+) -> Tuple[subprocess.Popen[bytes], bytes]:
+    """A run of 100,003 rows, the last cut short, and its text. It stands
+    still while that is not read, so it lasts as long as a trial wants."""
+    rows = [b"\x02\x04", b"\x01", *[b"\x0d"] * 100_000]
+    data = b"".join(row.ljust(8, b"\0") for row in rows) + b"\x0d"
+    put(room, "long.rows", data)
+    lines = ["line answer given running", "1 0 1 255", "2 0 255 1"]
+    lines += [f"{number} 0 0 1" for number in range(3, 100_003)]
+    lines += ["100003 17 255 1", ""]
+    run = begin(room, "run", "long.rows", stdout=stdout, stderr=stderr)
+    return run, "\n".join(lines).encode()
+
+
+def plain_for_a_pipe(room: Path) -> bool:
+    """With standard error a pipe, a long run writes its text alone."""
+    run, text = long_run(room, subprocess.PIPE, subprocess.PIPE)
+    select.select([run.stdout], [], [], SECONDS)
+    time.sleep(A_WHILE)
+    done = run.communicate(timeout=SECONDS)
+    return run.returncode == 0 and done == (text, b"")
+
+
+def plain_on_one_terminal(room: Path) -> bool:
+    """With both on one terminal, a long run writes its text alone."""
+    screen = Terminal()
+    run, text = long_run(room, screen.line, screen.line)
+    screen.hand_over()
+    select.select([screen.screen], [], [], SECONDS)
+    time.sleep(A_WHILE)
+    said = screen.until(b"")
+    screen.close()
+    return run.wait(SECONDS) == 0 and said == text.replace(b"\n", b"\r\n")
+
+
+def tells_a_terminal(room: Path) -> bool:
+    """With standard error alone on a terminal, a long run says its share on
+    one line, which it clears, and writes the same text."""
+    screen = Terminal()
+    run, text = long_run(room, subprocess.PIPE, screen.line)
+    screen.hand_over()
+    said = screen.until(b"%")
+    written = run.communicate(timeout=SECONDS)[0]
+    said = screen.until(b"", said)
+    screen.close()
+    form = rb"(\rtehuamozo: \d+% of the calls *)+\r *\r"
+    shown = re.fullmatch(form, said) is not None
+    return run.returncode == 0 and written == text and shown
+
+
+def stops_when_interrupted(room: Path) -> bool:
+    """An interrupt ends a run whose progress is shown: the line is cleared,
+    one line is said, and the program writes no more."""
+    screen = Terminal()
+    run, text = long_run(room, subprocess.PIPE, screen.line)
+    screen.hand_over()
+    said = screen.until(b"%")
+    os.killpg(run.pid, signal.SIGINT)
+    # Nothing is read before the end, so the text cannot be whole by then.
+    run.wait(SECONDS)
+    written = run.communicate()[0]
+    said = screen.until(b"", said)
+    screen.close()
+    cleared = said.endswith(b" \rtehuamozo: interrupted\r\n")
+    return (
+        run.returncode == 130 and cleared and len(written) < len(text)
+        and text.startswith(written)
+    )
+
+
+def interrupted(room: Path, *words: str) -> bool:
+    """Whether an interrupt ends a word in one line and 130."""
+    word = begin(room, *words)
+    time.sleep(A_WHILE)
+    os.killpg(word.pid, signal.SIGINT)
+    said = word.communicate(timeout=SECONDS)[1]
+    return word.returncode == 130 and one_line(said, "interrupted")
+
+
+def interrupts(room: Path) -> bool:
+    """An interrupt ends each word that waits for its input."""
+    os.mkfifo(room / "pipe")
+    many = [
+        ("run", "pipe"), ("explain", "pipe"), ("show", "pipe"),
+        ("rows", "pipe"), ("record", "pipe"),
+        ("timeline", "pipe", "-o", "one.svg"),
+    ]
+    return all(interrupted(room, *words) for words in many)
+
+
+def interrupted_at_any_time(room: Path) -> bool:
+    """So it is at whatever moment after the word has begun: no traceback."""
+    put(room, "calls", RUN + b"\x0d\0\0\0\0\0\0\0" * 20_000)
+    for part in range(20):
+        word = begin(room, "explain", "calls", stdout=subprocess.DEVNULL)
+        time.sleep(0.1 + part / 40)
+        os.killpg(word.pid, signal.SIGINT)
+        said = word.communicate(timeout=SECONDS)[1]
+        ended = word.returncode == 130 and one_line(said, "interrupted")
+        if not ended and (word.returncode, said) != (0, b""):
+            print(part, word.returncode, said)
+            return False
+    return True
+
+
+def bench_tells(room: Path) -> bool:
+    """bench says what it measures, and an interrupt ends it in one line."""
+    screen = Terminal()
+    word = begin(room, "bench", stdout=subprocess.PIPE, stderr=screen.line)
+    screen.hand_over()
+    said = screen.until(b"measuring")
+    os.killpg(word.pid, signal.SIGINT)
+    word.communicate(timeout=SECONDS)
+    said = screen.until(b"", said)
+    screen.close()
+    told = re.search(rb"tehuamozo: measuring \w+", said) is not None
+    ended = said.endswith(b"tehuamozo: interrupted\r\n")
+    return word.returncode == 130 and told and ended
+
+
+TRIALS: List[Trial] = [
+    ("help", helps),
+    ("help on a word", helps_on_word),
+    ("help calls", helps_on_calls),
+    ("help answers", helps_on_answers),
+    ("no such word", refuses("there is no word jump", "jump")),
+    ("an unprintable word", refuses(r"there is no word a\x07b", "a\ab")),
+    ("help on nothing", refuses("no help on jump", "help", "jump")),
+    ("run with two files", refuses("not 2", "run", "one", "two")),
+    ("run with an option", refuses("no option -x", "run", "-x")),
+    ("explain without a file", refuses("not 0", "explain")),
+    ("record with three files", refuses("not 3", "record", "a", "b", "c")),
+    ("rows with two files", refuses("not 2", "rows", "a", "b")),
+    ("rows with -o alone", refuses("-o takes one", "rows", "calls", "-o")),
+    ("show without a file", refuses("not 0", "show")),
+    ("test with a file", refuses("not 1", "test", "calls")),
+    ("a timeline without its file", refuses("-o", "timeline", "calls")),
+    ("a timeline of other ticks", refuses(
+        "FIRST-LAST", "timeline", "calls", "--ticks", "4", "-o", "a.svg")),
+    ("a timeline of too many ticks", refuses(
+        "4294967295", "timeline", "calls", "--ticks", "0-4294967296", "-o",
+        "a.svg")),
+    ("a long run with its messages to a pipe", plain_for_a_pipe),
+    ("a long run with all on one terminal", plain_on_one_terminal),
+    ("a long run with its messages to a terminal", tells_a_terminal),
+    ("a long run that is interrupted", stops_when_interrupted),
+    ("words that are interrupted", interrupts),
+    ("words that are interrupted at any time", interrupted_at_any_time),
+    ("bench", bench_tells),
+]

@@ -1,0 +1,301 @@
+"""Proves and builds the programs, once, and knows whether that was done.
+
+    program(name)      the proved program, open for reading
+    library(name)      the path of the proved static library
+
+A stamp, target/door/NAME, says from which sources, by which kit and for which
+machine a file was built, and what its bytes are. Where all that is still so
+the file is used as it is, and nothing is written: so a built tree serves
+readers who cannot write to it. Otherwise it is built again, under a lock on
+the repository's folder, since two provers at work in one folder disturb each
+other. The stamp guards against accidents, not against someone who writes to
+the tree; docs/TRUST.md says more. Imported by the words; it is no program.
+"""
+
+from __future__ import annotations
+
+import contextlib
+import fcntl
+import hashlib
+import os
+import platform
+import re
+import shutil
+import signal
+import subprocess
+from pathlib import Path
+from typing import (
+    IO, Dict, Iterator, List, NamedTuple, Optional, Sequence,
+)
+
+from streams import Trouble, complain
+from telling import telling
+
+TOP = Path(__file__).resolve().parent.parent
+TARGET = TOP / "target"
+# What `rt` takes from a crate's folder.
+PARTS = ("src", "specs", "proofs", "stdin", "stdout", "args", "data")
+PROVED = re.compile(rb"^rt: ([a-z_0-9]+ proved) \([0-9]+ s\)$", re.MULTILINE)
+
+
+class Product(NamedTuple):
+    """What is built: of which crate, how, and where it then stands."""
+
+    crate: str
+    command: Sequence[str]
+    file: Path
+    # What keeps `rt` from building it again, and is removed first.
+    marks: Sequence[Path]
+
+    def stamp(self) -> Path:
+        """Where its stamp stands."""
+        return TARGET / "door" / self.crate
+
+    def log(self) -> Path:
+        """Where the prover's words go."""
+        return TARGET / "door" / f"{self.crate}.log"
+
+
+def program_of(name: str) -> Product:
+    """A program."""
+    file, mark = TARGET / "bin" / name, TARGET / "stamp" / name
+    return Product(name, ("rt", "check", name), file, (file, mark))
+
+
+def library_of(name: str) -> Product:
+    """A static library."""
+    file = TARGET / "staticlib" / f"lib{name}.a"
+    return Product(name, ("rt", "staticlib", name), file, (file,))
+
+
+def dependencies() -> Dict[str, List[str]]:
+    """What each crate is listed with in crates.txt."""
+    found: Dict[str, List[str]] = {}
+    for line in (TOP / "crates.txt").read_text("utf-8").splitlines():
+        name, colon, rest = line.partition("#")[0].partition(":")
+        if colon:
+            found[name.strip()] = rest.split()
+    return found
+
+
+def reached(name: str, listed: Dict[str, List[str]]) -> List[str]:
+    """The crates that a crate stands on, and itself, in order of name."""
+    found = {name}
+    left = [name]
+    while left:
+        for other in listed.get(left.pop(), []):
+            if other not in found:
+                found.add(other)
+                left.append(other)
+    return sorted(found)
+
+
+def files_of(crate: str) -> Iterator[Path]:
+    """The files of a crate that `rt` takes, in order."""
+    for part in PARTS:
+        place = TOP / "crates" / crate / part
+        if place.is_file():
+            yield place
+        for folder, folders, names in os.walk(place):
+            folders.sort()
+            for name in sorted(names):
+                yield Path(folder) / name
+
+
+def digest(data: bytes) -> str:
+    """The SHA-256 of bytes."""
+    return hashlib.sha256(data).hexdigest()
+
+
+def sources(crate: str) -> str:
+    """One number for all that a crate is built from."""
+    listed = dependencies()
+    sums: List[str] = []
+    for name in reached(crate, listed):
+        sums.append(f"{name}: {' '.join(listed.get(name, []))}")
+        for file in files_of(name):
+            place = file.relative_to(TOP)
+            sums.append(f"{digest(file.read_bytes())} {place}")
+    return digest("\n".join(sums).encode())
+
+
+def kit_folder() -> Optional[Path]:
+    """The folder of the Rattle kit, if there is one."""
+    home = os.environ.get("RATTLE_HOME")
+    if home:
+        return Path(home)
+    command = shutil.which("rt")
+    return Path(command).resolve().parent.parent if command else None
+
+
+def kit() -> Optional[str]:
+    """The kit's name for itself, if there is a kit."""
+    folder = kit_folder()
+    if folder is None:
+        return None
+    with contextlib.suppress(OSError):
+        return (folder / "KIT-ID").read_text("utf-8").strip()
+    return None
+
+
+def stamped(of_sources: str, kit_id: str, data: bytes) -> str:
+    """The stamp of a file built from sources by a kit on this machine."""
+    return (
+        f"sources {of_sources}\n"
+        f"kit {kit_id}\n"
+        f"machine {platform.machine()}\n"
+        f"file {digest(data)}\n"
+    )
+
+
+def kit_in(stamp: str) -> str:
+    """The kit that a stamp names."""
+    found = re.search(r"^kit (.*)$", stamp, re.MULTILINE)
+    return found.group(1) if found else ""
+
+
+def is_built(product: Product, data: bytes) -> bool:
+    """Whether these are the bytes of the file built from these sources."""
+    try:
+        stamp = product.stamp().read_text("utf-8")
+    except (OSError, ValueError):
+        return False
+    # Without a kit nothing can be built anew, and the stamp's is the one.
+    kit_id = kit() or kit_in(stamp)
+    return stamp == stamped(sources(product.crate), kit_id, data)
+
+
+def standing(product: Product) -> Optional[IO[bytes]]:
+    """The file, open, if it is the one built from these sources. Whoever
+    replaces it meanwhile replaces its name, and not what is open here."""
+    try:
+        file = product.file.open("rb")
+    except OSError:
+        return None
+    if is_built(product, file.read()):
+        return file
+    file.close()
+    return None
+
+
+@contextlib.contextmanager
+def locked() -> Iterator[int]:
+    """While the lock on the repository's folder is held; its file."""
+    lock = os.open(TOP, os.O_RDONLY)
+    try:
+        with telling(lambda: "waiting for another word, which builds"):
+            fcntl.flock(lock, fcntl.LOCK_EX)
+        yield lock
+    finally:
+        os.close(lock)
+
+
+def last_proved(log: Path) -> str:
+    """The crate that was proved last, by the prover's words so far."""
+    try:
+        found = PROVED.findall(log.read_bytes())
+    except OSError:
+        return ""
+    return found[-1].decode() if found else ""
+
+
+def prove(product: Product, lock: int) -> int:
+    """Start the prover and wait for it; its exit status.
+
+    It keeps the lock if this process is killed, and is ended with it when
+    that is interrupted.
+    """
+    with product.log().open("wb") as log:
+        prover = subprocess.Popen(
+            product.command, cwd=TOP, stdin=subprocess.DEVNULL, stdout=log,
+            stderr=subprocess.STDOUT, pass_fds=(lock,),
+            start_new_session=True,
+        )
+    try:
+        with telling(lambda: last_proved(product.log())):
+            return prover.wait()
+    except BaseException:
+        with contextlib.suppress(ProcessLookupError):
+            os.killpg(prover.pid, signal.SIGTERM)
+        prover.wait()
+        raise
+
+
+def forget(product: Product) -> None:
+    """Have the file built again, also where `rt` thinks that it stands."""
+    for file in product.marks:
+        with contextlib.suppress(FileNotFoundError):
+            file.unlink()
+
+
+def put_stamp(product: Product, stamp: str) -> None:
+    """Write a stamp, whole or not at all."""
+    beside = product.stamp().with_suffix(".new")
+    beside.write_text(stamp, "utf-8")
+    beside.replace(product.stamp())
+
+
+def build(product: Product, lock: int) -> IO[bytes]:
+    """Prove and build under the lock, and stamp what is built."""
+    before = sources(product.crate)
+    product.stamp().parent.mkdir(parents=True, exist_ok=True)
+    forget(product)
+    if prove(product, lock) != 0:
+        words = product.log().read_text("utf-8", "replace").rstrip()
+        raise Trouble(f"{product.crate} is not proved:\n{words}")
+    if sources(product.crate) != before:
+        raise Trouble(
+            f"the sources of {product.crate} changed while they were proved"
+        )
+    file = product.file.open("rb")
+    put_stamp(product, stamped(before, kit() or "", file.read()))
+    return file
+
+
+def stamp_as_built(name: str) -> None:
+    """Stamp a program that the caller has just had proved and built, under
+    the lock."""
+    product = program_of(name)
+    try:
+        data = product.file.read_bytes()
+        product.stamp().parent.mkdir(parents=True, exist_ok=True)
+        stamp = stamped(sources(name), kit() or "", data)
+        put_stamp(product, stamp)
+    except OSError as error:
+        raise Trouble(f"{name} is not built: {error}") from error
+
+
+def made(product: Product) -> IO[bytes]:
+    """The file, open, which is built if it does not stand."""
+    file = standing(product)
+    if file is not None:
+        return file
+    if os.isatty(2):
+        complain(
+            f"proving and building {product.crate}, which takes some minutes "
+            "the first time"
+        )
+    with locked() as lock:
+        # Another word may have built it while this one waited.
+        file = standing(product)
+        if file is not None:
+            return file
+        try:
+            return build(product, lock)
+        except OSError as error:
+            raise Trouble(
+                f"{product.crate} is not built from these sources, and "
+                f"cannot be built here: {error}"
+            ) from error
+
+
+def program(name: str) -> IO[bytes]:
+    """A proved program, open for reading."""
+    return made(program_of(name))
+
+
+def library(name: str) -> Path:
+    """The path of a proved static library."""
+    product = library_of(name)
+    made(product).close()
+    return product.file

@@ -1,0 +1,234 @@
+"""Starts the proved programs, and judges what they did.
+
+A Rattle program has no exit status, so what it printed and wrote decides:
+run_calls gives what became of a run, and raises Trouble where a result that
+was asked for is not there. A program is run from the open file that was held
+against its stamp, so no other can take its place meanwhile.
+Imported by the words; it is no program.
+"""
+
+from __future__ import annotations
+
+import contextlib
+import os
+import platform
+import subprocess
+import tempfile
+import threading
+from typing import IO, Callable, Iterator, List, NamedTuple, Optional, Sequence
+
+import built
+from streams import BLOCK, Trouble, read_some
+
+LOADER = "ld-linux-x86-64.so.2"
+HEADING = b"line answer given running\n"
+REFUSED = b"record refused "
+ROW = 8
+# A program that reads standard input by a file's name.
+FED = "/dev/stdin"
+SECONDS_TO_CLOSE = 5.0
+
+
+class Feed(NamedTuple):
+    """Calls that are handed on as they come: what was read already, and
+    the input that has the rest, if there is more."""
+
+    head: bytes
+    name: str
+    file: Optional[int]
+
+
+class Handed(NamedTuple):
+    """The calls as a program gets them: a file of rows with its size, or
+    standard input with what is fed there."""
+
+    path: str
+    size: int
+    feed: Optional[Feed]
+
+
+def command_of(program: str) -> List[str]:
+    """What starts a program: itself, or the kit's emulator and loader."""
+    if platform.machine() == "x86_64":
+        return [program]
+    kit = built.kit_folder()
+    if kit is None:
+        raise Trouble("rt is not found, and its emulator is needed here")
+    tools = kit / "on" / platform.machine() / "toolchain"
+    emulator = [str(tools / "bin" / "qemu-x86_64"), str(tools / "lib" / LOADER)]
+    return [*emulator, "--library-path", str(tools / "lib"), program]
+
+
+@contextlib.contextmanager
+def started(
+    program: IO[bytes], words: Sequence[str], said: IO[bytes], is_fed: bool
+) -> Iterator[subprocess.Popen[bytes]]:
+    """A program at work, which is ended if it is left before its end.
+
+    It has a session of its own: an interrupt at the terminal is for the
+    word, which then ends it.
+    """
+    file = program.fileno()
+    source = subprocess.PIPE if is_fed else subprocess.DEVNULL
+    try:
+        process = subprocess.Popen(
+            [*command_of(f"/proc/self/fd/{file}"), *words], stdin=source,
+            stdout=subprocess.PIPE, stderr=said, pass_fds=(file,),
+            start_new_session=True,
+        )
+    except OSError as error:
+        raise Trouble(f"{program.name} cannot be started: {error}") from error
+    try:
+        yield process
+    except BaseException:
+        process.kill()
+        raise
+    finally:
+        process.wait()
+
+
+class Feeder(threading.Thread):
+    """Hands bytes on to a program; how many, and what was in the way."""
+
+    def __init__(self, feed: Feed, sink: IO[bytes]) -> None:
+        """Not begun yet."""
+        super().__init__(daemon=True)
+        self.feed = feed
+        self.sink = sink
+        self.count = 0
+        self.trouble: Optional[Trouble] = None
+
+    def hand_on(self, data: bytes) -> None:
+        """Hand some bytes on."""
+        self.sink.write(data)
+        self.sink.flush()
+        self.count += len(data)
+
+    def run(self) -> None:
+        """Hand on what was read, then the rest. A program that has ended
+        takes no more; what it printed tells whether it should have."""
+        try:
+            self.hand_on(self.feed.head)
+            while self.feed.file is not None:
+                data = read_some(self.feed.name, self.feed.file)
+                if not data:
+                    break
+                self.hand_on(data)
+        except Trouble as trouble:
+            self.trouble = trouble
+        except OSError:
+            pass
+        finally:
+            with contextlib.suppress(OSError):
+                self.sink.close()
+
+
+class Outcome(NamedTuple):
+    """What became of a run: the number by which its START was refused, or
+    none; how many rows were answered; what was said on standard error."""
+
+    refused: Optional[int]
+    rows: int
+    said: bytes
+
+
+class Text:
+    """The text of a run as it comes, and how many lines it has."""
+
+    def __init__(self, sink: Callable[[bytes], None]) -> None:
+        """Nothing yet."""
+        self.sink = sink
+        self.first = b""
+        self.lines = 0
+        self.last = b""
+
+    def take(self, data: bytes) -> None:
+        """Hand a block on."""
+        if len(self.first) < BLOCK:
+            self.first += data
+        self.lines += data.count(b"\n")
+        self.last = data[-1:]
+        self.sink(data)
+
+    def refused(self) -> Optional[int]:
+        """The number that a refused START was answered with."""
+        if self.first.startswith(REFUSED) and self.lines == 1:
+            return int(self.first[len(REFUSED):])
+        return None
+
+
+def read_text(process: subprocess.Popen[bytes], text: Text) -> None:
+    """Take all that a program prints."""
+    assert process.stdout is not None
+    file = process.stdout.fileno()
+    while True:
+        data = os.read(file, BLOCK)
+        if not data:
+            return
+        text.take(data)
+
+
+def said_in(said: IO[bytes]) -> bytes:
+    """What a program said on standard error."""
+    said.seek(0)
+    return said.read()
+
+
+def run_calls(
+    program: IO[bytes], calls: Handed, start: str, end: str,
+    sink: Callable[[bytes], None],
+    answered: Callable[[int], None] = lambda rows: None,
+) -> Outcome:
+    """Run calls from START to END; the text goes to the sink as it comes,
+    and how many rows are answered so far is told besides."""
+    words = [calls.path, start, end]
+    with tempfile.TemporaryFile() as said:
+        with started(program, words, said, calls.feed is not None) as process:
+            feeder = None
+            if calls.feed is not None and process.stdin is not None:
+                feeder = Feeder(calls.feed, process.stdin)
+                feeder.start()
+
+            def take(data: bytes) -> None:
+                sink(data)
+                answered(text.lines - 1)
+
+            text = Text(take)
+            read_text(process, text)
+        return outcome(calls, text, feeder, process.returncode, said_in(said))
+
+
+def outcome(
+    calls: Handed, text: Text, feeder: Optional[Feeder], status: int,
+    said: bytes,
+) -> Outcome:
+    """What became of a run that has ended."""
+    refused = text.refused()
+    if refused is not None:
+        return Outcome(refused, 0, said)
+    size = calls.size
+    if feeder is not None:
+        # A program that ended early leaves it waiting for more.
+        feeder.join(SECONDS_TO_CLOSE)
+        size = feeder.count
+        if feeder.trouble is not None:
+            raise feeder.trouble
+    rows = max(text.lines - 1, 0)
+    whole = text.first.startswith(HEADING) and text.last == b"\n"
+    if not whole or status != 0 or rows != (size + ROW - 1) // ROW:
+        words = said.decode("utf-8", "replace").strip() or "no reason is said"
+        raise Trouble(f"the run ended after row {rows}: {words}")
+    return Outcome(None, rows, said)
+
+
+def trace_calls(
+    program: IO[bytes], calls: str, start: str, out: str
+) -> None:
+    """Write the records that a run of a file of rows passes through."""
+    words = [calls, start, out]
+    with tempfile.TemporaryFile() as said:
+        with started(program, words, said, False) as process:
+            read_text(process, Text(lambda data: None))
+        words = said_in(said).decode("utf-8", "replace").strip()
+    if process.returncode != 0 or words:
+        raise Trouble(f"the trace ended early: {words or 'no reason is said'}")

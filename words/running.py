@@ -1,0 +1,234 @@
+"""The words that run calls: run, explain and timeline.
+
+Each gives its exit status: 0 where the work was done, 1 where START was
+refused or an expectation of the text is not met. What cannot be done raises
+Trouble. Imported by door.py; it is no program.
+"""
+
+from __future__ import annotations
+
+import contextlib
+import os
+from typing import Callable, Iterable, List, Optional, Sequence, Tuple
+
+import built
+import explain
+import programs
+import texts
+import timeline
+from borrowed import HEADER, header_of
+from calls import line_of, split_rows
+from sources import (
+    BOOT, Start, all_calls, calls_of, fed, handed_of, open_calls, open_start,
+    running_at,
+)
+from streams import Output, Room, Trouble, complain, put, shown_name
+from telling import telling
+
+DONE, REFUSED = 0, 1
+NOWHERE = "-"
+PICTURE = ".svg"
+# Lines that are written at once.
+MANY_LINES = 1_000
+
+
+def answers_in(text: bytes) -> List[texts.Answer]:
+    """The answers of a run's text."""
+    lines = text.split(b"\n")[1:-1]
+    return [texts.Answer(*map(int, line.split()[1:])) for line in lines]
+
+
+def share(answered: int, handed: programs.Handed) -> str:
+    """How many of the calls are answered, where that can be told."""
+    size = handed.size
+    if handed.feed is not None:
+        if handed.feed.file is not None:
+            return f"{answered} calls" if answered > 0 else ""
+        size = len(handed.feed.head)
+    rows = (size + programs.ROW - 1) // programs.ROW
+    if answered < 0 or rows == 0:
+        return ""
+    return f"{answered * 100 // rows}% of the calls"
+
+
+def run_told(
+    handed: programs.Handed, start: str, end: str,
+    sink: Callable[[bytes], None], is_told: bool = True,
+) -> programs.Outcome:
+    """Run calls, and tell on a terminal how far that is."""
+    answered = [-1]
+
+    def count(rows: int) -> None:
+        answered[0] = rows
+
+    # Building tells for itself, and comes first.
+    with built.program("run") as program:
+        with telling(lambda: share(answered[0], handed), is_told):
+            return programs.run_calls(
+                program, handed, start, end, sink, count
+            )
+
+
+def say_unmet(
+    calls: Optional[texts.Calls], answers: Sequence[texts.Answer]
+) -> int:
+    """Say which expectations of a text are not met; the exit status."""
+    lines = texts.unmet(calls, answers) if calls is not None else []
+    for line in lines:
+        complain(line)
+    return REFUSED if lines else DONE
+
+
+def say_refused(start: Start, outputs: Sequence[str]) -> int:
+    """Say what a refused START means; the exit status."""
+    rest = "no call was run"
+    if outputs:
+        rest += f", and {shown_name(outputs[0])} is left as it was"
+    complain(f"{shown_name(start.name)} is refused: {rest}")
+    return REFUSED
+
+
+def is_record(data: bytes) -> bool:
+    """Whether bytes are as many as a record in them says."""
+    return len(data) >= HEADER.size and header_of(data).total == len(data)
+
+
+def finish_record(room: Room, end: Output) -> None:
+    """Put a record that a program wrote in its place, if it is whole."""
+    with open(end.path(), "rb") as stream:
+        data = stream.read()
+    if not is_record(data):
+        name = shown_name(end.name)
+        raise Trouble(f"{name}: is left as it was: no record was written")
+    room.finish()
+
+
+def run_into(
+    room: Room, handed: programs.Handed, start: Start, end: Optional[Output],
+    calls: Optional[texts.Calls],
+) -> int:
+    """Run calls, write their text and the last record; the exit status."""
+    is_expecting = calls is not None and bool(calls.expectations)
+    parts: List[bytes] = []
+
+    def sink(data: bytes) -> None:
+        put(data)
+        if is_expecting:
+            parts.append(data)
+
+    path = NOWHERE if end is None else end.path()
+    # Where the answers go to a terminal, nothing else is said there.
+    done = run_told(handed, start.path, path, sink, not os.isatty(1))
+    if done.refused is not None:
+        return say_refused(start, [] if end is None else [end.name])
+    with contextlib.suppress(OSError):
+        os.write(2, done.said)
+    if end is not None:
+        finish_record(room, end)
+    return say_unmet(calls, answers_in(b"".join(parts)))
+
+
+def run(name: str, begin: str, last: str) -> int:
+    """Calls run from START, and the last record into END."""
+    with Room() as room:
+        source = open_calls(room, name)
+        start = open_start(room, begin)
+        end = None if last == NOWHERE else room.output(last)
+        calls = calls_of(source, start)
+        return run_into(room, handed_of(source, calls), start, end, calls)
+
+
+def answers_of(
+    calls: texts.Calls, start: Start
+) -> Optional[List[texts.Answer]]:
+    """The proved program's answers, or none where START is refused, which
+    is printed as the program says it."""
+    parts: List[bytes] = []
+    handed = fed(calls.rows, calls.name, None)
+    done = run_told(handed, start.path, NOWHERE, parts.append)
+    if done.refused is not None:
+        put(b"".join(parts))
+        return None
+    return answers_in(b"".join(parts))
+
+
+def put_lines(lines: Iterable[str]) -> None:
+    """Write lines to standard output, many at once."""
+    waiting: List[str] = []
+    for line in lines:
+        waiting.append(line + "\n")
+        if len(waiting) == MANY_LINES:
+            put("".join(waiting).encode())
+            waiting.clear()
+    put("".join(waiting).encode())
+
+
+def explain_calls(name: str, begin: str) -> int:
+    """Calls and answers in words."""
+    with Room() as room:
+        source = open_calls(room, name)
+        start = open_start(room, begin)
+        calls = all_calls(room, source, start)
+        answers = answers_of(calls, start)
+        if answers is None:
+            return say_refused(start, [])
+        put_lines(explain.explained(calls, running_at(start), answers))
+        return say_unmet(calls, answers)
+
+
+def traced(room: Room, calls: texts.Calls, start: Start) -> bytes:
+    """The records that a run passes through, one after the other."""
+    rows, out = room.put_aside("rows", calls.rows), room.path("trace")
+    with built.program("trace") as program:
+        with telling(lambda: "tracing the run"):
+            programs.trace_calls(program, rows, start.path, out)
+    with open(out, "rb") as stream:
+        return stream.read()
+
+
+def numbered(name: str, count: int) -> List[str]:
+    """The names of so many pictures: the name itself for one."""
+    if count == 1:
+        return [name]
+    stem = name[:-len(PICTURE)]
+    return [f"{stem}-{number}{PICTURE}" for number in range(1, count + 1)]
+
+
+def put_pictures(room: Room, name: str, pictures: Sequence[str]) -> None:
+    """Write pictures, and say their names where there are several."""
+    names = numbered(name, len(pictures))
+    for each, picture in zip(names, pictures):
+        output = room.outputs[0] if each == name else room.output(each)
+        output.write(picture.encode("ascii"))
+    if len(names) > 1:
+        room.outputs.pop(0).drop()
+    room.finish()
+    if len(names) > 1:
+        put_lines(shown_name(each) for each in names)
+
+
+def draw(
+    name: str, begin: str, ticks: Optional[Tuple[int, int]], picture: str
+) -> int:
+    """A picture of a run, or several where it is too tall for one."""
+    if not picture.endswith(PICTURE):
+        raise Trouble(
+            f"{shown_name(picture)}: a picture's name ends in {PICTURE}"
+        )
+    with Room() as room:
+        source = open_calls(room, name)
+        start = open_start(room, begin)
+        room.output(picture)
+        calls = all_calls(room, source, start)
+        answers = answers_of(calls, start)
+        if answers is None:
+            return say_refused(start, [picture])
+        trace = traced(room, calls, start)
+        lines = [line_of(row) for row in split_rows(calls.rows)]
+        with telling(lambda: "drawing the picture"):
+            drawn = timeline.pictures(lines, answers, trace, ticks)
+        put_pictures(room, picture, drawn)
+    return DONE
+
+
+__all__ = ["BOOT", "NOWHERE", "draw", "explain_calls", "run"]

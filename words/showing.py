@@ -1,0 +1,71 @@
+"""The words that show what a file holds: rows, show and record.
+
+Each gives its exit status; what cannot be done raises Trouble. Imported by
+door.py; it is no program.
+"""
+
+from __future__ import annotations
+
+import os
+from typing import List, Optional
+
+import tables
+from calls import text_of
+from running import NOWHERE, finish_record, put_lines, run_told
+from sources import BOOT, Start, all_calls, calls_of, fed, open_calls
+from streams import Room, Trouble, complain, put, read_to, shown_name
+
+DONE, REFUSED = 0, 1
+AT_BOOT = Start(BOOT, BOOT, b"")
+TERMINAL = "rows are not for a terminal: name a file with -o FILE"
+# What is longer than this is no record, and is shown no further.
+MOST_SHOWN = 1_048_576
+
+
+def rows(name: str, target: Optional[str]) -> int:
+    """The rows of a text, to a file or standard output."""
+    with Room() as room:
+        source = open_calls(room, name)
+        calls = calls_of(source, AT_BOOT)
+        if calls is None:
+            raise Trouble(f"{shown_name(name)}: is no text of calls")
+        if target is not None:
+            room.output(target).write(calls.rows)
+            room.finish()
+        elif os.isatty(1):
+            raise Trouble(TERMINAL)
+        else:
+            put(calls.rows)
+    return DONE
+
+
+def show(name: str) -> int:
+    """Calls as a text, one on a line."""
+    with Room() as room:
+        calls = all_calls(room, open_calls(room, name), AT_BOOT)
+        put(text_of(calls.rows).encode("ascii"))
+    return DONE
+
+
+def record(name: str, target: Optional[str]) -> int:
+    """A record's answer and tables; saved again where that is wanted."""
+    with Room() as room:
+        data = read_to(name, room.input(name), MOST_SHOWN)
+        if len(data) == MOST_SHOWN:
+            complain(f"{shown_name(name)}: only its first bytes are read")
+        output = None if target is None else room.output(target)
+        start, parts = room.put_aside("record", data), []  # type: str, List[bytes]
+        path = NOWHERE if output is None else output.path()
+        done = run_told(fed(b"", name, None), start, path, parts.append)
+        answer = done.refused or DONE
+        put(tables.record_text(data, answer).encode("ascii"))
+        if not tables.agrees(data, answer):
+            raise Trouble("the proved program and the second one disagree")
+        if answer == DONE and output is not None:
+            finish_record(room, output)
+        if answer != DONE and target is not None:
+            complain(f"{shown_name(target)} is left as it was")
+    return REFUSED if answer != DONE else DONE
+
+
+__all__ = ["put_lines", "record", "rows", "show"]

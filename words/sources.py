@@ -1,0 +1,130 @@
+"""Where a run takes its calls from, and where it begins, as the user names
+them.
+
+Calls are a file of rows or a text, told apart by their bytes. Rows are handed
+on as they are, and need not fit into memory. Imported by the words; it is no
+program.
+"""
+
+from __future__ import annotations
+
+import os
+from typing import List, NamedTuple, Optional, Sequence
+
+import texts
+from borrowed import answer_of, broken_rule, header_of, record_of
+from programs import FED, Feed, Handed
+from streams import (
+    STANDARD_INPUT, Room, identity_of, read_some, read_to, shown_name,
+)
+
+BOOT = "boot"
+DONE = 0
+NONE = 255
+RUNNING = 2
+COUNTS_AT_BOOT = (1, 0, 0, 0)
+# No record has more than 536 bytes, so these decide.
+RECORD_BYTES = 1_024
+
+
+class Source(NamedTuple):
+    """Calls as they are named: a text, or rows to hand on."""
+
+    name: str
+    text: Optional[bytes]
+    handed: Handed
+
+
+class Start(NamedTuple):
+    """Where a run begins: the name, what a program is told, and the record's
+    bytes, none at boot."""
+
+    name: str
+    path: str
+    record: bytes
+
+
+def fed(head: bytes, name: str, file: Optional[int]) -> Handed:
+    """Calls that are fed to a program."""
+    return Handed(FED, 0, Feed(head, name, file))
+
+
+def open_calls(room: Room, name: str) -> Source:
+    """Open calls, and tell by their bytes whether they are a text."""
+    file = room.input(name)
+    parts: List[bytes] = []
+    is_rows = is_ended = False
+    while not is_rows and not is_ended:
+        part = read_some(name, file)
+        parts.append(part)
+        is_ended = not part
+        is_rows = texts.no_text_byte(part)
+    head = b"".join(parts)
+    if is_ended and texts.is_text(head):
+        return Source(name, head, fed(b"", name, None))
+    status = os.fstat(file)
+    if name != STANDARD_INPUT and identity_of(status) is not None:
+        return Source(name, None, Handed(name, status.st_size, None))
+    return Source(name, None, fed(head, name, None if is_ended else file))
+
+
+def open_start(room: Room, name: str) -> Start:
+    """Open the record where a run begins, or boot."""
+    if name == BOOT:
+        return Start(name, BOOT, b"")
+    data = read_to(name, room.input(name), RECORD_BYTES)
+    return Start(name, room.put_aside("start", data), data)
+
+
+def is_sound(start: Start) -> bool:
+    """Whether a run begins at a record that the second program takes."""
+    if start.path == BOOT:
+        return False
+    return answer_of(broken_rule(start.record)) == DONE
+
+
+def counts_at(start: Start) -> Sequence[int]:
+    """How many threads, mutexes, condition variables and timers exist."""
+    return header_of(start.record).counts if is_sound(start) else COUNTS_AT_BOOT
+
+
+def running_at(start: Start) -> int:
+    """The thread that runs where a run begins."""
+    threads = record_of(start.record).threads if is_sound(start) else []
+    for identity, thread in enumerate(threads):
+        if thread.state == RUNNING:
+            return identity
+    return NONE
+
+
+def calls_of(source: Source, start: Start) -> Optional[texts.Calls]:
+    """The calls of a text; none for rows, which are handed on as they are."""
+    if source.text is None:
+        return None
+    name = shown_name(source.name)
+    return texts.calls_of_text(name, source.text, counts_at(start))
+
+
+def handed_of(source: Source, calls: Optional[texts.Calls]) -> Handed:
+    """The calls as a program gets them."""
+    if calls is None:
+        return source.handed
+    return fed(calls.rows, source.name, None)
+
+
+def rows_of(room: Room, source: Source) -> bytes:
+    """All rows of calls that are no text."""
+    feed = source.handed.feed
+    if feed is None:
+        return read_to(source.name, room.input(source.name))
+    if feed.file is None:
+        return feed.head
+    return feed.head + read_to(source.name, feed.file)
+
+
+def all_calls(room: Room, source: Source, start: Start) -> texts.Calls:
+    """The calls of a text or of rows, all of them."""
+    calls = calls_of(source, start)
+    if calls is not None:
+        return calls
+    return texts.calls_of_rows(shown_name(source.name), rows_of(room, source))
