@@ -96,6 +96,10 @@ TROUBLED: Tuple[Tuple[str, int, str], ...] = (
     ("create thread four\n", 1, "BASE is a number from 1 to 15, not four"),
     ("create thread -1\n", 1, "not -1"),
     ("create thread \u0664\n", 1, "not \u0664"),
+    ("create thread fo\u202eur\n", 1, "not fo\\u202eur"),
+    ("start timer 0 0 o\u202e 1000\n", 1, "not o\\u202e"),
+    ("row 0\u202e 00 00 00 00 00 00 00\n", 1, "not 0\\u202e"),
+    ("tick expect 0 a\u202e\n", 1, "not a\\u202e"),
     ("acquire 4x\n", 1, "MUTEX is a number from 0 to 15 or a name, not 4x"),
     ("create thread " + "9" * 5_000 + "\n", 1, "not " + "9" * 40 + ".."),
     # Calls.
