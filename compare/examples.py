@@ -3,10 +3,11 @@
     examples.py PROGRAM
 
 PROGRAM is the linked run program, target/bin/run. For each folder of
-examples/: the rows of calls.txt are those of calls.rows, the second program
-writes expected.txt, and so does PROGRAM; from start.record where there is
-one. The last line is `N passed, M failed`; the exit status is 0 only if
-something ran and M is 0, and 2 for wrong use.
+examples/: the rows of calls.txt are those of calls.rows, what calls.txt
+expects is met by expected.txt, the second program writes expected.txt, and so
+does PROGRAM; from start.record where there is one. The last line is
+`N passed, M failed`; the exit status is 0 only if something ran and M is 0,
+and 2 for wrong use.
 """
 
 from __future__ import annotations
@@ -19,8 +20,14 @@ from held import (
     REFERENCE, TOP, Done, command_of, in_a_room, run_program, text_differs,
 )
 
+sys.path.append(str(TOP / "words"))
+
+from borrowed import Answer, header_of  # noqa: E402
+from streams import Trouble  # noqa: E402
+from texts import AT_BOOT, Calls, calls_of_text, unmet  # noqa: E402
+
 USAGE = "usage: examples.py PROGRAM"
-CHECKS = 3
+CHECKS = 4
 
 
 def words_of(example: Path) -> List[str]:
@@ -35,15 +42,35 @@ def python(script: Path, *words: str) -> Done:
     return run_program([sys.executable, str(script), *words])
 
 
+def calls_in(example: Path) -> Calls:
+    """The calls of an example's text, counted from where its run begins."""
+    start = example / "start.record"
+    counts: Sequence[int] = AT_BOOT
+    if start.exists():
+        counts = header_of(start.read_bytes()).counts
+    text = example / "calls.txt"
+    try:
+        return calls_of_text(str(text), text.read_bytes(), counts)
+    except Trouble as trouble:
+        raise ValueError(str(trouble)) from trouble
+
+
+def answers_of(expected: bytes) -> List[Answer]:
+    """The answers of a run's text."""
+    lines = expected.decode("ascii").splitlines()[1:]
+    return [Answer(*map(int, line.split()[1:])) for line in lines]
+
+
 def judge_example(command: Sequence[str], example: Path) -> int:
     """Print what is wrong with an example; how many checks passed."""
-    text = str(example / "calls.txt")
+    calls = calls_in(example)
     rows = (example / "calls.rows").read_bytes()
     expected = (example / "expected.txt").read_bytes()
     words = words_of(example)
     complaints = {
-        "rows of calls.txt":
-            text_differs(python(TOP / "words" / "rows.py", text), rows),
+        "rows of calls.txt": "" if calls.rows == rows else "other rows",
+        "what calls.txt expects":
+            "; ".join(unmet(calls, answers_of(expected))),
         "the second program":
             text_differs(python(REFERENCE / "run.py", *words), expected),
         "the program":

@@ -1,31 +1,79 @@
 """The text form of calls: one call on a line, in the words of document 01.
 
-    rows_of(name, text)    the rows a text stands for; name is its file's
-    text_of(rows)          the text of rows, one line for each
+    row_of(form, words)     the row of a call from the words of its fields
+    rows_of_words(words)    the bytes that the words of one line stand for
+    line_of(row)            the line of a row, with names for ids if wanted
+    text_of(rows)           the text of rows, one line for each
+    guide()                 the calls with their fields, for people
 
-Numbers are decimal. Blank lines and what follows `#` do not count. Besides
-the thirteen calls a line can be `tick COUNT`, that many ticks; `row` and
-eight bytes in hexadecimal, for rows of wrong form; and, as the last one,
-`part` and one to seven bytes. text_of is such that rows_of gives the same
-bytes back. A line in trouble raises TextTrouble, whose text names the file
-and the line.
+Numbers are decimal. Besides the thirteen calls a line can be `tick COUNT`,
+that many ticks; `row` and eight bytes in hexadecimal, for rows of wrong form;
+and `part` and one to seven bytes, for a last row that is cut short. What a
+text has besides is in texts.py; from what text_of gives it makes the same
+bytes again. Words that are no call raise Trouble. Imported by the words; it
+is no program.
 """
 
 from __future__ import annotations
 
 import string
-from typing import Iterator, List, NamedTuple, Optional, Sequence, Tuple
+from typing import (
+    Iterator, List, Mapping, NamedTuple, Optional, Sequence, Tuple,
+)
+
+from borrowed import (
+    CONDITION_VARIABLES, HIGHEST_PRIORITY, LONGEST_LENGTH,
+    MICROSECONDS_PER_TICK, MUTEXES, THREADS, TIMERS,
+)
+from streams import Trouble, printable
 
 ROW = 8
 KINDS = ("one-shot", "periodic")
 LARGEST_BYTE, LARGEST_NUMBER = 255, 4_294_967_295
-# COUNT stands in no row: this only keeps a slip from filling the memory.
-MOST_TICKS = 1_000_000
+# What `tick COUNT` and `repeat` make is in no file, so a slip in a number
+# could fill the memory. Rows that have lines of their own are never too many.
+MOST_ROWS = 1_000_000
 HEXADECIMAL = frozenset(string.hexdigits)
+SEE_CALLS = "see `./tehuamozo help calls`"
+
+# The things that have ids, and how many of each there can be.
+THREAD, MUTEX, TIMER = "thread", "mutex", "timer"
+CONDITION_VARIABLE = "condition variable"
+LIMITS: Mapping[str, int] = {
+    THREAD: THREADS, MUTEX: MUTEXES,
+    CONDITION_VARIABLE: CONDITION_VARIABLES, TIMER: TIMERS,
+}
+# What an id of a kind is called.
+Names = Mapping[Tuple[str, int], str]
+NO_NAMES: Names = {}
 
 
-class TextTrouble(Exception):
-    """A line that is no call; its text is the line to show."""
+class Field(NamedTuple):
+    """A number in a call: its bounds, and what it is the id of, if it is."""
+
+    least: int
+    most: int
+    # A row has room for more than document 01 accepts: 0 to this.
+    room: int
+    of: str = ""
+
+
+def id_field(kind: str) -> Field:
+    """The field of an id of some kind."""
+    return Field(0, LIMITS[kind] - 1, LARGEST_BYTE, kind)
+
+
+FIELDS: Mapping[str, Field] = {
+    "BASE": Field(1, HIGHEST_PRIORITY, LARGEST_BYTE),
+    "CEILING": Field(1, HIGHEST_PRIORITY, LARGEST_BYTE),
+    "MUTEX": id_field(MUTEX),
+    "CONDITION": id_field(CONDITION_VARIABLE),
+    "TIMER": id_field(TIMER),
+    "MICROSECONDS": Field(
+        MICROSECONDS_PER_TICK,
+        (LONGEST_LENGTH + 1) * MICROSECONDS_PER_TICK - 1, LARGEST_NUMBER,
+    ),
+}
 
 
 class Form(NamedTuple):
@@ -34,33 +82,39 @@ class Form(NamedTuple):
     code: int
     words: Tuple[str, ...]
     fields: Tuple[str, ...]
+    # One clause on what the call does, for people.
+    does: str
 
 
-def form(code: int, text: str) -> Form:
+def form(code: int, text: str, does: str) -> Form:
     """The form of a call from its pattern, where fields are in capitals."""
     words = text.split()
     fields = tuple(word for word in words if word.isupper())
-    return Form(code, tuple(words[:len(words) - len(fields)]), fields)
+    return Form(code, tuple(words[:len(words) - len(fields)]), fields, does)
 
 
 FORMS: Tuple[Form, ...] = (
-    form(1, "start"),
-    form(2, "create thread BASE"),
-    form(3, "create mutex CEILING"),
-    form(4, "create condition variable"),
-    form(5, "create timer"),
-    form(6, "acquire MUTEX"),
-    form(7, "release MUTEX"),
-    form(8, "wait CONDITION MUTEX"),
-    form(9, "signal CONDITION"),
-    form(10, "broadcast CONDITION"),
-    form(11, "start timer TIMER CONDITION KIND MICROSECONDS"),
-    form(12, "stop timer TIMER"),
-    form(13, "tick"),
+    form(1, "start", "the first of the highest ready queue runs"),
+    form(2, "create thread BASE", "makes a thread, which is ready"),
+    form(3, "create mutex CEILING", "makes a mutex, which is free"),
+    form(4, "create condition variable", "makes a condition variable"),
+    form(5, "create timer", "makes a timer, which is stopped"),
+    form(6, "acquire MUTEX", "the caller takes the mutex or waits for it"),
+    form(7, "release MUTEX", "the caller gives the mutex up, once"),
+    form(8, "wait CONDITION MUTEX",
+         "the caller gives the mutex up and waits for a signal"),
+    form(9, "signal CONDITION", "the first that waits there leaves"),
+    form(10, "broadcast CONDITION", "all that wait there leave"),
+    form(11, "start timer TIMER CONDITION KIND MICROSECONDS",
+         "the timer signals after that time, once or again and again"),
+    form(12, "stop timer TIMER", "the timer signals no more"),
+    form(13, "tick", "1000 microseconds pass; timers that are due signal"),
 )
 TICK = FORMS[12]
-# Longest first, so that `start timer` is not taken for `start`.
-BY_LENGTH = sorted(FORMS, key=lambda form: -len(form.words))
+BY_WORDS: Mapping[Tuple[str, ...], Form] = {
+    form.words: form for form in FORMS
+}
+MOST_WORDS = max(len(form.words) for form in FORMS)
 
 
 def pattern(form: Form) -> str:
@@ -68,28 +122,70 @@ def pattern(form: Form) -> str:
     return " ".join(form.words + form.fields).replace("KIND", "|".join(KINDS))
 
 
-def number_of(word: str, name: str, least: int, most: int) -> int:
-    """The number a word stands for, if it lies within its range."""
+def bounds_of(name: str) -> str:
+    """What document 01 says of a field, for people."""
+    if name == "KIND":
+        return " or ".join(KINDS)
+    return f"{FIELDS[name].least} to {FIELDS[name].most}"
+
+
+def guide() -> List[str]:
+    """The calls and what they do, then their fields with their bounds."""
+    patterns = [pattern(form) for form in FORMS]
+    width = max(map(len, patterns))
+    lines = [
+        f"{written:{width}}  {form.does}"
+        for written, form in zip(patterns, FORMS)
+    ]
+    width = max(map(len, FIELDS))
+    return lines + [""] + [
+        f"{name:{width}}  {bounds_of(name)}" for name in FIELDS
+    ]
+
+
+def number_of(
+    word: str, name: str, least: int, most: int, room: Optional[int] = None,
+    beside: str = "",
+) -> int:
+    """The number a word stands for; beyond most if there is room for it."""
     if not (word.isascii() and word.isdecimal()):
-        raise TextTrouble(f"{name} is a number, not {word}")
+        raise Trouble(
+            f"{name} is a number from {least} to {most}{beside}, "
+            f"not {printable(word)}"
+        )
+    low, high = (least, most) if room is None else (0, room)
     digits = word.lstrip("0") or "0"
     # A very long number is not even read: it is out of every range here.
-    if len(digits) > 10 or not least <= int(digits) <= most:
-        raise TextTrouble(f"{name} is {least} to {most}, not {word}")
+    if len(digits) > 10 or not low <= int(digits) <= high:
+        roomy = "" if room is None else f" (a row has room for 0 to {room})"
+        raise Trouble(
+            f"{name} is {least} to {most}{roomy}, not {printable(word)}"
+        )
     return int(digits)
+
+
+def field_of(word: str, name: str) -> int:
+    """The number in a field. Document 01 answers those out of its bounds."""
+    field = FIELDS[name]
+    return number_of(
+        word, name, field.least, field.most, field.room,
+        " or a name" if field.of else "",
+    )
 
 
 def kind_of(word: str) -> int:
     """The kind of a timer from its word."""
     if word not in KINDS:
-        raise TextTrouble(f"a timer is {' or '.join(KINDS)}, not {word}")
+        raise Trouble(
+            f"a timer is {' or '.join(KINDS)}, not {printable(word)}"
+        )
     return KINDS.index(word)
 
 
 def row_of(form: Form, words: Sequence[str]) -> bytes:
     """The row of a call from the words of its fields."""
     if len(words) != len(form.fields):
-        raise TextTrouble("write: " + pattern(form))
+        raise Trouble("write: " + pattern(form))
     # The ids and priorities fill a and then b, in the order they are written.
     named: List[int] = []
     kind = microseconds = 0
@@ -97,9 +193,9 @@ def row_of(form: Form, words: Sequence[str]) -> bytes:
         if name == "KIND":
             kind = kind_of(word)
         elif name == "MICROSECONDS":
-            microseconds = number_of(word, name, 0, LARGEST_NUMBER)
+            microseconds = field_of(word, name)
         else:
-            named.append(number_of(word, name, 0, LARGEST_BYTE))
+            named.append(field_of(word, name))
     a, b = (named + [0, 0])[:2]
     return bytes((form.code, a, b, kind)) + microseconds.to_bytes(4, "little")
 
@@ -108,51 +204,38 @@ def bytes_of(words: Sequence[str], least: int, most: int) -> bytes:
     """Bytes written in hexadecimal, two digits each."""
     wanted = str(most) if least == most else f"{least} to {most}"
     if not least <= len(words) <= most:
-        raise TextTrouble(f"{wanted} bytes are needed, not {len(words)}")
+        raise Trouble(f"{wanted} bytes are needed, not {len(words)}")
     for word in words:
         if len(word) != 2 or not HEXADECIMAL.issuperset(word):
-            raise TextTrouble(f"a byte is two hexadecimal digits, not {word}")
+            raise Trouble(
+                f"a byte is two hexadecimal digits, not {printable(word)}"
+            )
     return bytes.fromhex("".join(words))
 
 
 def find_form(words: Sequence[str]) -> Optional[Form]:
     """The call whose words a line begins with, if there is one."""
-    for form in BY_LENGTH:
-        if tuple(words[:len(form.words)]) == form.words:
+    # Most words first, so that `start timer` is not taken for `start`.
+    for count in range(MOST_WORDS, 0, -1):
+        form = BY_WORDS.get(tuple(words[:count]))
+        if form is not None:
             return form
     return None
 
 
-def rows_of_line(words: Sequence[str]) -> bytes:
-    """The bytes one line stands for."""
+def rows_of_words(words: Sequence[str]) -> bytes:
+    """The bytes that the words of one line stand for."""
     if words[0] == "row":
         return bytes_of(words[1:], ROW, ROW)
     if words[0] == "part":
         return bytes_of(words[1:], 1, ROW - 1)
     if words[0] == "tick" and len(words) == 2:
-        return row_of(TICK, ()) * number_of(words[1], "COUNT", 1, MOST_TICKS)
+        return row_of(TICK, ()) * number_of(words[1], "COUNT", 1, MOST_ROWS)
     form = find_form(words)
     if form is None:
-        raise TextTrouble("no such call: " + " ".join(words))
+        line = printable(" ".join(words))
+        raise Trouble(f"no such call: {line}; {SEE_CALLS}")
     return row_of(form, words[len(form.words):])
-
-
-def rows_of(name: str, text: str) -> bytes:
-    """The rows of a text; trouble names the file and the line."""
-    rows: List[bytes] = []
-    part = 0
-    for number, line in enumerate(text.split("\n"), 1):
-        words = line.partition("#")[0].split()
-        if not words:
-            continue
-        try:
-            if part:
-                raise TextTrouble(f"line {part} has a part row, the last one")
-            rows.append(rows_of_line(words))
-        except TextTrouble as trouble:
-            raise TextTrouble(f"{name}:{number}: {trouble}") from trouble
-        part = number if words[0] == "part" else 0
-    return b"".join(rows)
 
 
 def hexadecimal(data: bytes) -> str:
@@ -160,7 +243,7 @@ def hexadecimal(data: bytes) -> str:
     return data.hex(" ").upper()
 
 
-def fields_of(form: Form, row: bytes) -> List[str]:
+def fields_of(form: Form, row: bytes, names: Names) -> List[str]:
     """The words of a row's fields, as far as the form names them."""
     named = iter(row[1:3])
     words: List[str] = []
@@ -170,21 +253,28 @@ def fields_of(form: Form, row: bytes) -> List[str]:
         elif name == "MICROSECONDS":
             words.append(str(int.from_bytes(row[4:], "little")))
         else:
-            words.append(str(next(named)))
+            number = next(named)
+            key = FIELDS[name].of, number
+            words.append(names.get(key, str(number)))
     return words
 
 
-def line_of(row: bytes) -> str:
+def form_of(row: bytes) -> Optional[Form]:
+    """The form of a row, if it is one of right form."""
+    if len(row) < ROW or not 1 <= row[0] <= len(FORMS):
+        return None
+    form = FORMS[row[0] - 1]
+    # What the form does not name has to be 0, or the way back differs.
+    same = row_of(form, fields_of(form, row, NO_NAMES)) == row
+    return form if same else None
+
+
+def line_of(row: bytes, names: Names = NO_NAMES) -> str:
     """The line of a row; one that is no call is shown as its bytes."""
-    if len(row) < ROW:
-        return "part " + hexadecimal(row)
-    if 1 <= row[0] <= len(FORMS):
-        form = FORMS[row[0] - 1]
-        words = fields_of(form, row)
-        # What the form does not name has to be 0, or the way back differs.
-        if row_of(form, words) == row:
-            return " ".join([*form.words, *words])
-    return "row " + hexadecimal(row)
+    form = form_of(row)
+    if form is not None:
+        return " ".join([*form.words, *fields_of(form, row, names)])
+    return ("row " if len(row) == ROW else "part ") + hexadecimal(row)
 
 
 def split_rows(rows: bytes) -> Iterator[bytes]:
