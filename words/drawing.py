@@ -1,342 +1,377 @@
-"""Draws the moments of a run as an SVG picture.
+"""Draws a run as SVG pictures.
 
-    picture(moments)    the whole picture, as text
+    drawn(run)    the pictures, each as text
 
-From the top: a legend, then bands; a band has the ticks on its axis, a lane
-for each thread and each mutex, and a lane for the calls. Waiting for a mutex
-is a filled box with a whole border, waiting on a condition variable an empty
-box with a broken one, so that the two differ without colours as well.
-Imported by timeline.py; it is no program.
+From the top: a heading, a legend, then bands; a band has the ticks on its
+axis, a lane for each thread, each mutex and each timer, and a lane for the
+calls. A picture is at most TALLEST high, so that viewers show all of it; a
+longer run is drawn as several, each of which says which one it is. Imported
+by timeline.py; it is no program.
 """
 
 from __future__ import annotations
 
-from typing import Iterator, List, NamedTuple, Sequence, Tuple
+from bisect import bisect_left, bisect_right
+from operator import attrgetter
+from typing import FrozenSet, Iterator, List, NamedTuple, Sequence, Tuple
 
-from spread import (
-    BAND_WIDTH, NONE, Look, Mark, Moment, Place, marks_of, moment_width,
-    mutex_look, places_of, stopped_look, thread_look,
+from history import Expiry, History, Lane, Look
+from looks import (
+    LANE, LETTER, STYLE, THREAD_KINDS, bar, bordered, centred, colour_of,
+    cross, diamond, line, mark,
 )
+from spread import BAND_WIDTH, Band, Spread, spread_of, tick_columns
+from streams import printable
+from svg import box, number, path, text
 
 MARGIN, LABELS = 12, 128
 LEFT = MARGIN + LABELS
 WIDTH = LEFT + BAND_WIDTH + MARGIN
-TOP, AXIS, LANE, BOX, GAP = 80, 18, 18, 14, 26
-# A letter of the small text, about; calls are written where they have room.
-LETTER, ROOM_FOR_CALLS = 5.4, 11
+AXIS, CALLS, GAP = 18, 14, 26
+LEGEND_TOP, LEGEND_ROW, LEGEND_COLUMNS, LEGEND_WIDTH = 28, 20, 3, 393
+SAMPLE = 26
+# Half of what viewers and converters commonly take, which is 32,767.
+TALLEST = 16_000
 STEPS = (1, 2, 5, 10, 20, 50, 100, 200, 500, 1_000)
-
-# Dark enough for white figures. Threads share colours, so figures decide.
-COLOURS = (
-    "#1f5fa8", "#b24a00", "#00755a", "#8a3b8f", "#6b6400", "#a8233f",
-    "#2b2f77", "#5b4636", "#00798c", "#c2185b", "#3f7d00", "#6a3fc4",
-)
-IDLE_COLOUR = "#8a8a8a"
-
-STYLE = """\
-text { font-family: sans-serif; font-size: 11px; fill: #222222; }
-text.small { font-size: 9px; }
-text.light { font-size: 9px; fill: #ffffff; }
-.stripe { fill: #f4f4f4; }
-.stopped { fill: #e4e4e4; }
-.grid { stroke: #dddddd; stroke-width: 1; fill: none; }
-.strong { stroke: #bbbbbb; stroke-width: 1; fill: none; }
-.ready { fill: #8f8f8f; }
-.mutex-wait { fill: #ffd9a8; stroke: #b24a00; stroke-width: 1; }
-.condition-variable-wait { fill: #ffffff; stroke: #1f5fa8; stroke-width: 1;
-  stroke-dasharray: 3 2; }
-.call { fill: #444444; }
-"""
+FIGURE, BESIDE_FIGURES = 6.5, 8
+LONGEST_CALL, BESIDE_EXPIRY = 60, 4
+moment_of = attrgetter("moment")
 
 LEGEND = (
-    ("running", "running, in the thread's colour", NONE),
-    ("ready", "ready", NONE),
-    ("stopped", "not started yet", NONE),
-    ("mutex-wait", "waits for the mutex of this number", 2),
+    ("running", "running, in the thread's colour, with its number", "1"),
+    ("mutex-wait", "waits for the mutex of this number", "2"),
+    ("one-shot", "one-shot timer for the condition variable of this number",
+     "0"),
+    ("ready", "ready", ""),
     ("condition-variable-wait",
-     "waits on the condition variable of this number", 0),
-    ("owned", "the mutex is owned by the thread of this number", 1),
+     "waits on the condition variable of this number", "0"),
+    ("periodic", "periodic timer for the condition variable of this number",
+     "0"),
+    ("stopped", "not started yet", ""),
+    ("owned", "the mutex is owned by the thread of this number", "1"),
+    ("expiry", "the timer expires and signals", ""),
+    ("call", "call; accepted ticks stand on the axis", ""),
+    ("refused", "refused call, in words with its answer number", ""),
 )
-NAMES = {
-    "running": ("runs", ""), "ready": ("is ready", ""),
-    "mutex-wait": ("waits for", "mutex"),
-    "condition-variable-wait": ("waits on", "condition variable"),
-    "owned": ("is owned by", "thread"),
-}
+TOP = LEGEND_TOP + LEGEND_ROW * -(-len(LEGEND) // LEGEND_COLUMNS) + 16
 
 
-class Lane(NamedTuple):
-    """A lane of the picture: whose it is, its label, and its marks."""
+class Run(NamedTuple):
+    """Some ticks of a run, or all: the row that led to each moment, the
+    answer to it, the first one's number, and what the whole run is."""
 
-    name: str
-    label: str
-    marks: List[Mark]
+    history: History
+    lines: Sequence[str]
+    answers: Sequence[int]
+    first_row: int
+    whole: str
+    is_whole: bool
 
 
 class Sheet(NamedTuple):
     """What all parts are drawn from; calls is the height of their lane."""
 
-    moments: Sequence[Moment]
-    places: List[Place]
-    lanes: List[Lane]
+    run: Run
+    spread: Spread
+    columns: List[int]
+    ticked: FrozenSet[int]
     calls: float
 
 
-def number(value: float) -> str:
-    """A number as short as it can be written, the same everywhere."""
-    return f"{value:.2f}".rstrip("0").rstrip(".")
+def call_words(run: Run, moment: int) -> str:
+    """The call that led to a moment, in words; its answer if refused."""
+    words, answer = printable(run.lines[moment], LONGEST_CALL), ""
+    if run.answers[moment]:
+        answer = f": {run.answers[moment]}"
+    return words + answer
 
 
-def colour_of(identity: int) -> str:
-    """The colour of a thread; idle is grey."""
-    if identity == 0:
-        return IDLE_COLOUR
-    return COLOURS[(identity - 1) % len(COLOURS)]
-
-
-def text(x: float, y: float, words: str, more: str = "") -> str:
-    """A text at a place."""
-    return f'<text x="{number(x)}" y="{number(y)}"{more}>{words}</text>\n'
-
-
-def box(
-    kind: str, x: float, y: float, width: float, height: float,
-    fill: str = "", title: str = "",
-) -> str:
-    """A box of a kind, with what it says when it is pointed at."""
-    colour = f' fill="{fill}"' if fill else ""
-    head = (
-        f'<rect class="{kind}" x="{number(x)}" y="{number(y)}" '
-        f'width="{number(width)}" height="{number(height)}"{colour}'
-    )
-    if not title:
-        return head + "/>\n"
-    return f"{head}><title>{title}</title></rect>\n"
-
-
-def lanes_of(moments: Sequence[Moment], places: List[Place]) -> List[Lane]:
-    """The lanes of all threads and mutexes there are in the end."""
-    records = [moment.record for moment in moments]
-    lanes: List[Lane] = []
-    for identity, thread in enumerate(records[-1].threads):
-        name = f"thread {identity}"
-        looks = [thread_look(record, identity) for record in records]
-        label = f"{name}, base {thread.base}"
-        lanes.append(Lane(name, label, marks_of(places, looks)))
-    for identity, mutex in enumerate(records[-1].mutexes):
-        name = f"mutex {identity}"
-        looks = [mutex_look(record, identity) for record in records]
-        label = f"{name}, ceiling {mutex.ceiling}"
-        lanes.append(Lane(name, label, marks_of(places, looks)))
-    return lanes
-
-
-def sheet_of(moments: Sequence[Moment]) -> Sheet:
-    """Places, lanes, and room for the calls if there is any."""
-    places = places_of(moments)
-    height = 12.0
-    if moment_width(moments) >= ROOM_FOR_CALLS:
-        height += LETTER * max(len(moment.line) for moment in moments)
-    return Sheet(moments, places, lanes_of(moments, places), height)
+def sheet_of(run: Run) -> Sheet:
+    """Places, and the room that the calls need."""
+    spread = spread_of(run.history)
+    ticked = frozenset(run.history.columns)
+    height = float(CALLS)
+    if spread.written:
+        height += LETTER * max(
+            (len(call_words(run, moment))
+             for moment in range(len(run.lines)) if moment not in ticked),
+            default=0,
+        )
+    return Sheet(run, spread, tick_columns(run.history), ticked, height)
 
 
 def band_height(sheet: Sheet) -> float:
     """The height of a band with the gap below it."""
-    return AXIS + LANE * len(sheet.lanes) + sheet.calls + GAP
+    return AXIS + LANE * len(sheet.run.history.lanes) + sheet.calls + GAP
 
 
-def band_top(sheet: Sheet, band: int) -> float:
-    """Where a band begins."""
-    return TOP + band * band_height(sheet)
+def span(noun: str, first: int, last: int) -> str:
+    """One number, or a first and a last one."""
+    return f"{noun} {first}" if first == last else f"{noun}s {first} to {last}"
 
 
-def words_in(look: Look, width: float) -> str:
-    """What is written in a box: with its noun, as a number, or nothing."""
-    noun = NAMES[look.kind][1]
-    for words in (f"{noun} {look.identity}", str(look.identity)):
-        if noun and len(words) * LETTER + 3 <= width:
-            return words
-    return ""
+def when(run: Run, first: int, end: int) -> str:
+    """The ticks of some moments."""
+    counts = run.history.counts
+    return span("tick", counts[first], counts[end - 1])
 
 
-def shape(
-    look: Look, x: float, top: float, width: float, fill: str, title: str
-) -> str:
-    """The box of a look in its lane, and what is written in it."""
-    if look.kind == "ready":
-        middle = top + LANE / 2 - 0.5
-        return box(look.kind, x, middle, width, 1, "", title)
-    y = top + (LANE - BOX) / 2
-    inset = 0.5 if look.kind.endswith("wait") else 0
-    drawn = box(
-        look.kind, x + inset, y + inset, width - 2 * inset, BOX - 2 * inset,
-        fill, title,
-    )
-    words = words_in(look, width)
-    if not words:
-        return drawn
-    kind = "light" if look.kind == "owned" else "small"
-    more = f' class="{kind}" text-anchor="middle"'
-    return drawn + text(x + width / 2, top + LANE / 2 + 3.3, words, more)
+def x_of(sheet: Sheet, moment: int) -> float:
+    """Where a moment begins."""
+    return LEFT + sheet.spread.lefts[moment]
 
 
-def title_of(sheet: Sheet, lane: Lane, mark: Mark) -> str:
-    """What a mark says when it is pointed at."""
-    verb, noun = NAMES[mark.look.kind]
-    what = f"{verb} {noun} {mark.look.identity}" if noun else verb
-    first = sheet.moments[mark.first].record.tick_count
-    last = sheet.moments[mark.last].record.tick_count
-    when = f"tick {first}" if first == last else f"ticks {first} to {last}"
-    return f"{lane.name} {what}, {when}"
+def stretches(lane: Lane, band: Band) -> Iterator[Tuple[int, int, Look]]:
+    """What a lane shows within a band: the moments from, before, and what."""
+    index = max(bisect_right(lane.since, band.first) - 1, 0)
+    last = bisect_left(lane.since, band.end)
+    ends = [*lane.since[index + 1:last], band.end]
+    for first, end, look in zip(
+        lane.since[index:last], ends, lane.looks[index:last]
+    ):
+        if look is not None:
+            yield max(first, band.first), end, look
 
 
-def fill_of(lane: Lane, look: Look) -> str:
-    """The colour of a mark that has one of its own: that of a thread."""
-    if look.kind == "owned":
-        return colour_of(look.identity)
-    if look.kind == "running":
-        return colour_of(int(lane.name.split()[1]))
-    return ""
+def expiries_in(lane: Lane, first: int, end: int) -> List[Expiry]:
+    """A timer's expiries from one moment to before another."""
+    begin = bisect_left(lane.expiries, first, key=moment_of)
+    return lane.expiries[begin:bisect_left(lane.expiries, end, key=moment_of)]
 
 
-def draw_lane(sheet: Sheet, band: int, index: int) -> Iterator[str]:
-    """One lane of a band: its label and its marks."""
-    lane = sheet.lanes[index]
-    top = band_top(sheet, band) + AXIS + index * LANE
-    yield text(
-        LEFT - 8, top + LANE / 2 + 4, lane.label, ' text-anchor="end"'
-    )
-    for mark in lane.marks:
-        if mark.band == band:
-            yield shape(
-                mark.look, LEFT + mark.x, top, mark.width,
-                fill_of(lane, mark.look), title_of(sheet, lane, mark),
-            )
+def room_for_words(sheet: Sheet, lane: Lane, first: int, end: int) -> float:
+    """The room for words in a mark: a timer's end before its next expiry."""
+    lefts, last = sheet.spread.lefts, sheet.spread.rights[end - 1]
+    if lane.expiries:
+        for moment, _ in expiries_in(lane, first + 1, end)[:1]:
+            last = lefts[moment] - BESIDE_EXPIRY
+    return last - lefts[first]
 
 
-def columns_in(sheet: Sheet, band: int) -> List[Tuple[float, int]]:
-    """Where the columns of a band begin, with their tick counts."""
-    found: List[Tuple[float, int]] = []
-    for moment, place in zip(sheet.moments, sheet.places):
-        if place.band == band and (moment.ticked or not found):
-            found.append((LEFT + place.x, moment.record.tick_count))
+def draw_stretches(
+    sheet: Sheet, band: Band, lane: Lane, top: float
+) -> Iterator[str]:
+    """The marks of what a lane shows."""
+    lefts, rights = sheet.spread.lefts, sheet.spread.rights
+    for first, end, look in stretches(lane, band):
+        left = lefts[first]
+        yield mark(
+            lane, look, LEFT + left, top, rights[end - 1] - left,
+            room_for_words(sheet, lane, first, end),
+            when(sheet.run, first, end),
+        )
+
+
+def draw_expiries(
+    sheet: Sheet, band: Band, lane: Lane, top: float
+) -> Iterator[str]:
+    """The marks of a timer's expiries."""
+    for moment, condition_variable in expiries_in(lane, band.first, band.end):
+        title = (
+            f"{lane.noun} {lane.identity} expires and signals condition "
+            f"variable {condition_variable}, "
+            f"{when(sheet.run, moment, moment + 1)}"
+        )
+        yield diamond(x_of(sheet, moment), top, title)
+
+
+def label_of(lane: Lane) -> str:
+    """What stands before a lane."""
+    name = f"{lane.noun} {lane.identity}"
+    if lane.noun == "thread":
+        return f"{name}, base {lane.priority}"
+    return f"{name}, ceiling {lane.priority}" if lane.noun == "mutex" else name
+
+
+def label(y: float, words: str) -> str:
+    """Words before a lane."""
+    return text("label", LEFT - 8, y, words)
+
+
+def draw_lanes(sheet: Sheet, band: Band, top: float) -> Iterator[str]:
+    """The lanes of a band: the label and the marks of each."""
+    for index, lane in enumerate(sheet.run.history.lanes):
+        lane_top = top + index * LANE
+        yield label(lane_top + LANE / 2 + 4, label_of(lane))
+        yield from draw_stretches(sheet, band, lane, lane_top)
+        yield from draw_expiries(sheet, band, lane, lane_top)
+
+
+def columns_in(sheet: Sheet, band: Band) -> List[int]:
+    """The moments at which a band's ticks begin, or go on at its left."""
+    columns = sheet.columns
+    found = columns[
+        bisect_left(columns, band.first):bisect_left(columns, band.end)
+    ]
+    torn = bool(columns) and columns[0] < band.first
+    if torn and (not found or found[0] > band.first):
+        return [band.first, *found]
     return found
 
 
-def step_of(columns: Sequence[Tuple[float, int]]) -> int:
+def step_of(counts: Sequence[int], usual: float) -> int:
     """Every which tick is written, so that the numbers do not touch."""
-    if len(columns) < 2:
-        return 1
-    # The column in the middle by width: a few wide ones do not decide.
-    pairs = zip(columns, columns[1:])
-    widths = sorted(right[0] - left[0] for left, right in pairs)
-    usual = widths[len(widths) // 2]
-    digits = max(len(str(tick_count)) for _, tick_count in columns)
-    wide = digits * 6.5 + 8
+    digits = max((len(str(count)) for count in counts), default=1)
+    wide = digits * FIGURE + BESIDE_FIGURES
     return next((step for step in STEPS if step * usual >= wide), STEPS[-1])
 
 
-def draw_axis(sheet: Sheet, band: int, bottom: float) -> Iterator[str]:
+def draw_axis(
+    sheet: Sheet, band: Band, top: float, bottom: float
+) -> Iterator[str]:
     """The lines at which ticks begin, and the numbers of some of them."""
-    columns, top = columns_in(sheet, band), band_top(sheet, band)
-    step, free = step_of(columns), 0.0
+    columns = columns_in(sheet, band)
+    counts = [sheet.run.history.counts[moment] for moment in columns]
+    step, free = step_of(counts, sheet.spread.usual), 0.0
     light: List[str] = []
-    for x, tick_count in columns:
-        line = f"M{number(x)} {number(top + AXIS - 3)}V{number(bottom)}"
+    for index, (moment, count) in enumerate(zip(columns, counts)):
+        x = x_of(sheet, moment)
+        drawn = f"M{number(x)} {number(top + AXIS - 3)}V{number(bottom)}"
         # The first of a band is written whatever its number is.
-        if x < free or (tick_count % step and x > LEFT):
-            light.append(line)
+        if x < free or (count % step and index > 0):
+            light.append(drawn)
             continue
-        yield f'<path class="strong" d="{line}"/>\n'
-        yield text(x + 1, top + AXIS - 6, str(tick_count))
-        free = x + len(str(tick_count)) * 6.5 + 6
-    yield text(LEFT - 8, top + AXIS - 6, "tick", ' text-anchor="end"')
+        yield path("strong", drawn)
+        yield text("tick", x + 1, top + AXIS - 6, str(count))
+        free = x + len(str(count)) * FIGURE + 6
+    yield label(top + AXIS - 6, "tick")
     if light:
-        yield f'<path class="grid" d="{"".join(light)}"/>\n'
+        yield path("grid", "".join(light))
 
 
-def draw_calls(sheet: Sheet, band: int, top: float) -> Iterator[str]:
-    """A mark for each call but the ticks that the axis has; some in words."""
-    written = moment_width(sheet.moments) >= ROOM_FOR_CALLS
-    yield text(LEFT - 8, top + 11, "calls", ' text-anchor="end"')
-    for index, (moment, place) in enumerate(zip(sheet.moments, sheet.places)):
-        if place.band != band or moment.ticked or not moment.line:
-            continue
-        x = LEFT + place.x
-        title = f"row {index}: {moment.line}"
-        yield box("call", x, top + 3, 2, 6, "", title)
-        if written:
-            turn = f' class="small" transform="rotate(90 {number(x + 3)} '
-            turn += f'{number(top + 4)})"'
-            yield text(x + 3, top + 4, moment.line, turn)
+def draw_call(sheet: Sheet, moment: int, top: float) -> str:
+    """The mark of a call, and its words where they have room."""
+    run, x = sheet.run, x_of(sheet, moment)
+    answer = run.answers[moment]
+    shown = printable(run.lines[moment], LONGEST_CALL)
+    title = f"row {run.first_row + moment}: {shown}"
+    drawn = bar(x, top, title)
+    if answer:
+        drawn = cross(x, top, f"{title}: refused {answer}")
+    if not sheet.spread.written:
+        return drawn
+    kind = "refused-words" if answer else "words"
+    turn = f' transform="rotate(90 {number(x)} {number(top + CALLS)})"'
+    words = call_words(run, moment)
+    return drawn + text(kind, x, top + CALLS, words, turn)
 
 
-def draw_ground(sheet: Sheet, band: int, bottom: float) -> Iterator[str]:
+def draw_calls(sheet: Sheet, band: Band, top: float) -> Iterator[str]:
+    """A mark for each call but the ticks that the axis has."""
+    yield label(top + 11, "calls")
+    for moment in range(band.first, band.end):
+        if moment not in sheet.ticked:
+            yield draw_call(sheet, moment, top)
+
+
+def draw_ground(
+    sheet: Sheet, band: Band, top: float, bottom: float
+) -> Iterator[str]:
     """What lies under the marks: stripes, and where nothing is started."""
-    top = band_top(sheet, band) + AXIS
-    wide = max(p.x + p.width for p in sheet.places if p.band == band)
-    for index in range(0, len(sheet.lanes), 2):
-        yield box("stripe", LEFT, top + index * LANE, wide, LANE)
-    looks = [stopped_look(moment.record) for moment in sheet.moments]
-    for mark in marks_of(sheet.places, looks):
-        if mark.band == band:
-            yield box("stopped", LEFT + mark.x, top, mark.width, bottom - top)
-    threads = len(sheet.moments[-1].record.threads)
-    if threads < len(sheet.lanes):
-        line = f"M{MARGIN} {number(top + threads * LANE)}"
-        line += f"h{number(LABELS + wide)}"
-        yield f'<path class="strong" d="{line}"/>\n'
+    lanes = sheet.run.history.lanes
+    for index in range(0, len(lanes), 2):
+        yield box("stripe", LEFT, top + index * LANE, band.width, LANE)
+    stopped = min(sheet.run.history.started, band.end)
+    if stopped > band.first:
+        width = sheet.spread.rights[stopped - 1]
+        yield box("stopped", LEFT, top, width, bottom - top)
+    for index in range(1, len(lanes)):
+        if lanes[index].noun != lanes[index - 1].noun:
+            between = f"M{MARGIN} {number(top + index * LANE)}"
+            yield path("strong", f"{between}h{number(LABELS + band.width)}")
 
 
-def draw_band(sheet: Sheet, band: int) -> Iterator[str]:
+def draw_band(sheet: Sheet, band: Band, top: float) -> Iterator[str]:
     """One band."""
-    bottom = band_top(sheet, band) + AXIS + LANE * len(sheet.lanes)
-    yield from draw_ground(sheet, band, bottom)
-    yield from draw_axis(sheet, band, bottom)
-    for index in range(len(sheet.lanes)):
-        yield from draw_lane(sheet, band, index)
+    lanes = top + AXIS
+    bottom = lanes + LANE * len(sheet.run.history.lanes)
+    yield from draw_ground(sheet, band, lanes, bottom)
+    yield from draw_axis(sheet, band, top, bottom)
+    yield from draw_lanes(sheet, band, lanes)
     yield from draw_calls(sheet, band, bottom)
 
 
+def sample(kind: str, x: float, top: float, words: str) -> str:
+    """What a kind of mark looks like."""
+    if kind == "expiry":
+        return diamond(x + SAMPLE / 2, top, "")
+    if kind in ("call", "refused"):
+        # The marks of calls stand higher than the middle of a lane.
+        shape = bar if kind == "call" else cross
+        return shape(x + SAMPLE / 2 - 1, top + 3, "")
+    if kind == "ready":
+        return line(x, top, SAMPLE, "")
+    light = kind in THREAD_KINDS
+    fill = colour_of(1) if light else ""
+    framed = bordered(kind, x, top, SAMPLE, fill, "")
+    if not words:
+        return framed
+    figures = "light" if light else "small"
+    return framed + centred(figures, x + SAMPLE / 2, top, words)
+
+
 def draw_legend() -> Iterator[str]:
-    """What the looks mean."""
-    for index, (kind, words, identity) in enumerate(LEGEND):
-        x = LEFT + index % 3 * 330.0
-        top = 28.0 + index // 3 * 20
-        sample = "sample " + kind
-        if kind == "ready":
-            yield box(sample, x, top + LANE / 2 - 0.5, 26, 1)
-        else:
-            fill = colour_of(1) if kind in ("running", "owned") else ""
-            yield box(sample, x, top + 2, 26, BOX, fill)
-        if identity != NONE:
-            look = "light" if kind == "owned" else "small"
-            more = f' class="{look}" text-anchor="middle"'
-            yield text(x + 13, top + LANE / 2 + 3.3, str(identity), more)
-        yield text(x + 31, top + LANE / 2 + 4, words)
+    """What the marks mean."""
+    yield "<g>\n<title>legend</title>\n"
+    for index, (kind, words, inside) in enumerate(LEGEND):
+        x = LEFT + index % LEGEND_COLUMNS * float(LEGEND_WIDTH)
+        top = LEGEND_TOP + index // LEGEND_COLUMNS * float(LEGEND_ROW)
+        yield sample(kind, x, top, inside)
+        yield text("legend", x + SAMPLE + 5, top + LANE / 2 + 4, words)
+    yield "</g>\n"
 
 
-def heading(moments: Sequence[Moment]) -> str:
-    """How much the picture shows."""
-    first = moments[0].record.tick_count
-    last = moments[-1].record.tick_count
-    return f"{len(moments) - 1} rows, tick {first} to tick {last}"
+def rows_shown(run: Run, first: int, end: int) -> str:
+    """The rows that led to some moments; to the beginning none did."""
+    first_row = max(run.first_row + first, 1)
+    last_row = run.first_row + end - 1
+    if last_row < first_row:
+        return "no rows"
+    return span("row", first_row, last_row)
 
 
-def picture(moments: Sequence[Moment]) -> str:
-    """The whole picture; there is at least the moment at the beginning."""
-    sheet = sheet_of(moments)
-    bands = sheet.places[-1].band + 1
-    height = TOP + bands * band_height(sheet)
+def heading(
+    sheet: Sheet, bands: Sequence[Band], index: int, pictures: int
+) -> str:
+    """Which picture this is, and what it shows."""
+    run, first, end = sheet.run, bands[0].first, bands[-1].end
+    said = f"picture {index + 1} of {pictures}, " if pictures > 1 else ""
+    said += f"{when(run, first, end)}, {rows_shown(run, first, end)}"
+    if pictures > 1 or not run.is_whole:
+        said += f", of a run of {run.whole}"
+    if sheet.spread.wider:
+        said += "; ticks with many calls are drawn wider"
+    return said
+
+
+def picture(
+    sheet: Sheet, bands: Sequence[Band], index: int, pictures: int
+) -> str:
+    """One picture: some bands below each other."""
+    each = band_height(sheet)
+    height = number(TOP + len(bands) * each)
     parts = [
         f'<svg xmlns="http://www.w3.org/2000/svg" width="{WIDTH}" '
-        f'height="{number(height)}" '
-        f'viewBox="0 0 {WIDTH} {number(height)}">\n',
+        f'height="{height}" viewBox="0 0 {WIDTH} {height}">\n',
         f"<style>\n{STYLE}</style>\n",
-        box("paper", 0, 0, WIDTH, height, "#ffffff"),
-        text(LEFT, 20, heading(moments)),
+        box("paper", 0, 0, WIDTH, TOP + len(bands) * each, "#ffffff"),
+        text("heading", LEFT, 20, heading(sheet, bands, index, pictures)),
         *draw_legend(),
     ]
-    for band in range(bands):
-        parts.extend(draw_band(sheet, band))
+    for place, band in enumerate(bands):
+        parts.extend(draw_band(sheet, band, TOP + place * each))
     return "".join(parts) + "</svg>\n"
+
+
+def drawn(run: Run) -> List[str]:
+    """The pictures of a run; there is at least the moment at its beginning."""
+    sheet = sheet_of(run)
+    most = max(int((TALLEST - TOP) // band_height(sheet)), 1)
+    bands = sheet.spread.bands
+    parts = [
+        bands[first:first + most] for first in range(0, len(bands), most)
+    ]
+    return [
+        picture(sheet, part, index, len(parts))
+        for index, part in enumerate(parts)
+    ]

@@ -1,73 +1,59 @@
-"""Spreads the moments of a run over a picture: where each is, and its marks.
+"""Spreads the moments of a run over bands: where each one is drawn.
 
 A moment is the state after a row, drawn from its place to the next one's. The
 moments of one tick share that tick's column in their order. Columns stand
-side by side, and a full band is followed by one below it. Imported by
-drawing.py and timeline.py; it is no program.
+side by side, and a full band is followed by one below it; a column that fits
+in a band is never torn. What comes before the start takes no time and stands
+before the first column, as wide as its calls need.
+
+All columns have one width, enough for the fullest, so that equal lengths are
+equal times. That holds as long as it makes the picture at most MOST_GROWTH
+times as long as it is where each column has the width that its own moments
+need; otherwise it has that, and the picture says so. A moment needs
+LEAST_MOMENT, or ROOM_FOR_CALLS where calls are written in words, which are
+runs of at most MOST_WRITTEN moments. Imported by drawing.py; it is no program.
 """
 
 from __future__ import annotations
 
-from typing import List, NamedTuple, Optional, Sequence
+from typing import Iterator, List, NamedTuple, Tuple
 
-from borrowed import Record
-
-NONE = 255
-READY, RUNNING, WAITS_FOR_MUTEX, WAITS_ON_CONDITION_VARIABLE = 1, 2, 3, 4
+from history import History
 
 BAND_WIDTH = 1_180
 # The least widths can still be read, the most keep short runs together.
-LEAST_MOMENT, MOST_MOMENT = 6, 40
+LEAST_MOMENT, ROOM_FOR_CALLS, MOST_MOMENT = 6, 11, 40
 LEAST_COLUMN, MOST_COLUMN = 10, 60
-
-LOOKS = {
-    READY: "ready", RUNNING: "running", WAITS_FOR_MUTEX: "mutex-wait",
-    WAITS_ON_CONDITION_VARIABLE: "condition-variable-wait",
-}
+MOST_WRITTEN, MOST_GROWTH = 200, 4
+# What sums of widths may be off by, far below what can be seen.
+SLIP = 0.01
 
 
-class Moment(NamedTuple):
-    """The state after a row: its record, the row's line, a tick's or not."""
+class Column(NamedTuple):
+    """A tick's column, or what comes before the start: moments and width."""
 
-    record: Record
-    line: str
-    ticked: bool
-
-
-class Place(NamedTuple):
-    """Where a moment is drawn."""
-
-    band: int
-    x: float
+    size: int
     width: float
 
 
-class Look(NamedTuple):
-    """What a mark shows: its kind and the id it names, or none."""
+class Band(NamedTuple):
+    """A band: its first moment, the one after its last, and its width."""
 
-    kind: str
-    identity: int
-
-
-class Mark(NamedTuple):
-    """A look that lasts, within one band, and its first and last moment."""
-
-    band: int
-    x: float
-    width: float
-    look: Look
     first: int
-    last: int
+    end: int
+    width: float
 
 
-def columns_of(moments: Sequence[Moment]) -> List[int]:
-    """How many moments each column has; a tick begins a new one."""
-    sizes: List[int] = []
-    for moment in moments:
-        if moment.ticked or not sizes:
-            sizes.append(0)
-        sizes[-1] += 1
-    return sizes
+class Spread(NamedTuple):
+    """Where each moment begins and ends within its band, the bands, the usual
+    width of a tick, whether some are wider, whether calls are written."""
+
+    lefts: List[float]
+    rights: List[float]
+    bands: List[Band]
+    usual: float
+    wider: bool
+    written: bool
 
 
 def between(least: float, wanted: float, most: float) -> float:
@@ -75,69 +61,109 @@ def between(least: float, wanted: float, most: float) -> float:
     return max(least, min(wanted, most))
 
 
-def moment_width(moments: Sequence[Moment]) -> float:
-    """The least width of a moment in this picture."""
-    wanted = BAND_WIDTH / len(moments)
-    return between(LEAST_MOMENT, wanted, MOST_MOMENT)
+def tick_columns(history: History) -> List[int]:
+    """The first moment of each tick's column, from the start on."""
+    if history.started == len(history.counts):
+        return []
+    return [history.started, *history.columns[1:]]
 
 
-def column_widths(moments: Sequence[Moment]) -> List[float]:
-    """A column's width: the same for all, but wide enough for its moments."""
-    sizes = columns_of(moments)
-    usual = between(LEAST_COLUMN, BAND_WIDTH / len(sizes), MOST_COLUMN)
-    least = moment_width(moments)
+def sizes_of(history: History) -> List[int]:
+    """How many moments each tick's column has."""
+    firsts = tick_columns(history)
+    ends = [*firsts[1:], len(history.counts)]
+    return [end - first for first, end in zip(firsts, ends)]
+
+
+def least_moment(history: History) -> int:
+    """The width that a moment needs."""
+    written = len(history.counts) <= MOST_WRITTEN
+    return ROOM_FOR_CALLS if written else LEAST_MOMENT
+
+
+def own_widths(sizes: List[int], wanted: float, least: int) -> List[float]:
+    """For each column the width that its own moments need."""
+    usual = between(LEAST_COLUMN, wanted, MOST_COLUMN)
     return [max(usual, size * least) for size in sizes]
 
 
-def places_of(moments: Sequence[Moment]) -> List[Place]:
-    """The place of each moment; a band ends before a column if it can."""
-    places: List[Place] = []
-    band, x = 0, 0.0
-    for size, width in zip(columns_of(moments), column_widths(moments)):
-        if x > 0 and x + width > BAND_WIDTH:
-            band, x = band + 1, 0.0
-        for _ in range(size):
-            if x > 0 and x + width / size > BAND_WIDTH + 0.01:
-                band, x = band + 1, 0.0
-            places.append(Place(band, x, width / size))
-            x += width / size
-    return places
+def equal_width(sizes: List[int], wanted: float, least: int) -> float:
+    """The one width that is enough for the fullest column."""
+    fullest = max(sizes)
+    most = max(MOST_COLUMN, fullest * MOST_MOMENT)
+    return max(LEAST_COLUMN, fullest * least, min(wanted, most))
 
 
-def thread_look(record: Record, identity: int) -> Optional[Look]:
-    """Where a thread stands, if it exists yet."""
-    if identity >= len(record.threads):
-        return None
-    thread = record.threads[identity]
-    return Look(LOOKS[thread.state], thread.waited_for)
+def column_widths(sizes: List[int], room: float, least: int) -> List[float]:
+    """The width of each tick's column, by the rule of this file's header."""
+    if not sizes:
+        return []
+    wanted = room / len(sizes)
+    own = own_widths(sizes, wanted, least)
+    equal = equal_width(sizes, wanted, least)
+    together = equal * len(sizes)
+    fits = together <= max(room + SLIP, MOST_GROWTH * sum(own))
+    return [equal] * len(sizes) if fits and equal <= BAND_WIDTH else own
 
 
-def mutex_look(record: Record, identity: int) -> Optional[Look]:
-    """Who owns a mutex, if anyone does."""
-    if identity >= len(record.mutexes):
-        return None
-    owner = record.mutexes[identity].owner
-    return None if owner == NONE else Look("owned", owner)
+def before_start(history: History) -> List[Column]:
+    """What comes before the start, if anything does."""
+    if history.started == 0:
+        return []
+    wanted = BAND_WIDTH / len(history.counts)
+    each = between(least_moment(history), wanted, MOST_MOMENT)
+    return [Column(history.started, history.started * each)]
 
 
-def stopped_look(record: Record) -> Optional[Look]:
-    """Whether the scheduler is stopped."""
-    return None if record.started else Look("stopped", NONE)
+def ticks_of(history: History, before: List[Column]) -> List[Column]:
+    """The columns of the ticks, next to what comes before the start."""
+    sizes = sizes_of(history)
+    used = sum(column.width for column in before)
+    room = BAND_WIDTH - used % BAND_WIDTH
+    widths = column_widths(sizes, room, least_moment(history))
+    return list(map(Column, sizes, widths))
 
 
-def marks_of(
-    places: Sequence[Place], looks: Sequence[Optional[Look]]
-) -> List[Mark]:
-    """The marks of one lane: equal looks that follow each other are one."""
-    marks: List[Mark] = []
-    for index, (place, look) in enumerate(zip(places, looks)):
-        if look is None:
-            continue
-        last = marks[-1] if marks else None
-        if (last is not None and last.look == look
-                and last.last == index - 1 and last.band == place.band):
-            width = place.x + place.width - last.x
-            marks[-1] = last._replace(width=width, last=index)
-        else:
-            marks.append(Mark(*place, look, index, index))
-    return marks
+def moments_in(column: Column) -> Iterator[Tuple[float, float]]:
+    """The moments of a column: the room each wants ahead, and its width."""
+    each = column.width / column.size
+    yield min(column.width, BAND_WIDTH), each
+    for _ in range(column.size - 1):
+        yield each, each
+
+
+def placed(columns: List[Column]) -> Tuple[List[float], List[float]]:
+    """Where each moment begins and ends; one at 0 is the first of a band."""
+    lefts: List[float] = []
+    rights: List[float] = []
+    x = 0.0
+    for column in columns:
+        for ahead, each in moments_in(column):
+            if x + ahead > BAND_WIDTH + SLIP:
+                x = 0.0
+            lefts.append(x)
+            x += each
+            rights.append(x)
+    return lefts, rights
+
+
+def bands_of(lefts: List[float], rights: List[float]) -> List[Band]:
+    """The bands."""
+    firsts = [moment for moment, left in enumerate(lefts) if left == 0]
+    ends = [*firsts[1:], len(lefts)]
+    return [
+        Band(first, end, rights[end - 1]) for first, end in zip(firsts, ends)
+    ]
+
+
+def spread_of(history: History) -> Spread:
+    """The whole run over bands; there is at least one moment."""
+    before = before_start(history)
+    ticks = ticks_of(history, before)
+    lefts, rights = placed(before + ticks)
+    widths = [column.width for column in ticks] or [BAND_WIDTH]
+    return Spread(
+        lefts, rights, bands_of(lefts, rights),
+        min(widths), min(widths) < max(widths),
+        len(history.counts) <= MOST_WRITTEN,
+    )

@@ -1,88 +1,83 @@
-"""Draws a run: who ran, who waited and who owned each mutex, tick by tick.
+"""Draws a run: who ran, who waited, who owned each mutex, and which timers
+ran, tick by tick.
 
-    timeline.py CALLS TRACE -o FILE.svg
+    pictures(lines, answers, trace, ticks)    the SVG texts, one a picture
 
-CALLS is a file of call rows. TRACE holds saved records one after the other:
-the one at the beginning, then the one after each row of CALLS, a part row at
-the end included. The picture has a lane for each thread and each mutex, and
-one for the calls; the axis has the tick counts of the records. The same files
-give the same picture. The exit status is 0, or 2 for wrong use or a file in
-trouble.
+lines has the text of each row of the calls, answers the answer to each. The
+trace holds saved records one after the other: the one at the beginning, then
+the one after each row, a part row at the end included. ticks is none, or the
+first and the last tick count to draw; counts go from 4,294,967,295 to 0, and
+so may a range. The same inputs give the same pictures. Imported by door.py;
+it is no program.
 """
 
 from __future__ import annotations
 
-import sys
-from typing import List, Sequence
+from typing import List, Optional, Sequence, Tuple
 
-from borrowed import (
-    HEADER, FileTrouble, broken_rule, complain, header_of, read_file,
-    record_of, write_file,
-)
-from calls import line_of, split_rows
-from drawing import picture
-from spread import Moment
-
-USAGE = "usage: timeline.py CALLS TRACE -o FILE.svg"
+from borrowed import TICK_COUNT_ROUND, Answer
+from drawing import Run, drawn, span
+from history import History, cut, history_of
+from streams import Trouble
 
 
-def split_trace(path: str, data: bytes) -> List[bytes]:
-    """The records of a trace, each of which says its own length."""
-    records: List[bytes] = []
-    offset = 0
-    while offset < len(data):
-        rest = data[offset:offset + 65_535]
-        where = f"{path}: record {len(records)}, at byte {offset},"
-        if len(rest) < HEADER.size or len(rest) < header_of(rest).total:
-            raise FileTrouble(f"{where} is cut short")
-        record = rest[:header_of(rest).total]
-        rule = broken_rule(record)
-        if rule is not None:
-            raise FileTrouble(f"{where} breaks the rule {rule}")
-        records.append(record)
-        offset += len(record)
-    return records
-
-
-def moments_of(lines: Sequence[str], records: Sequence[bytes]) -> List[Moment]:
-    """The moments: the beginning, then the state after each row."""
-    moments: List[Moment] = []
-    for line, data in zip(["", *lines], records):
-        record = record_of(data)
-        # A tick that is refused leaves the count, and begins no column.
-        ticked = bool(moments) and (
-            record.tick_count != moments[-1].record.tick_count
+def check_lengths(
+    lines: Sequence[str], answers: Sequence[Answer], history: History
+) -> None:
+    """Trouble if the rows, the answers and the trace are not of one run."""
+    rows, records = len(lines), len(history.counts)
+    if len(answers) != rows:
+        raise Trouble(f"{rows} rows have {len(answers)} answers")
+    if records != rows + 1:
+        raise Trouble(
+            f"trace: has {records} records, but {rows} rows need {rows + 1}"
         )
-        moments.append(Moment(record, line, ticked))
-    return moments
 
 
-def read_moments(calls: str, trace: str) -> List[Moment]:
-    """The moments of a run from its two files."""
-    lines = [line_of(row) for row in split_rows(read_file(calls))]
-    records = split_trace(trace, read_file(trace))
-    if len(records) != len(lines) + 1:
-        raise FileTrouble(
-            f"{trace}: has {len(records)} records, but {calls} has "
-            f"{len(lines)} rows, which need {len(lines) + 1}"
-        )
-    return moments_of(lines, records)
+def ticks_in(history: History) -> str:
+    """Which ticks a run has, in words."""
+    return span("tick", history.counts[0], history.counts[-1])
 
 
-def main(arguments: Sequence[str]) -> int:
-    """Do what the command line asks; the exit status."""
-    if len(arguments) != 4 or arguments[2] != "-o":
-        complain(USAGE)
-        return 2
-    calls, trace, _, target = arguments
-    try:
-        moments = read_moments(calls, trace)
-        write_file(target, picture(moments).encode("ascii"))
-    except FileTrouble as trouble:
-        complain(str(trouble))
-        return 2
-    return 0
+def asked_ticks(history: History, ticks: Tuple[int, int]) -> Tuple[int, int]:
+    """The first and last tick to draw, counted from the run's own first."""
+    run_first, run_last = history.counts[0], len(history.columns) - 1
+    first, last = ((tick - run_first) % TICK_COUNT_ROUND for tick in ticks)
+    asked, has = span("tick", *ticks), f"the run has {ticks_in(history)}"
+    if last < first <= run_last:
+        raise Trouble(f"{asked}: the last comes before the first; {has}")
+    if last < first:
+        # The range begins before the run does.
+        first = 0
+    if first > run_last:
+        raise Trouble(f"{asked}: there is nothing to draw; {has}")
+    return first, min(last, run_last)
 
 
-if __name__ == "__main__":
-    sys.exit(main(sys.argv[1:]))
+def moments_of(
+    history: History, ticks: Optional[Tuple[int, int]]
+) -> Tuple[int, int]:
+    """The first moment to draw, and the one after the last."""
+    end = len(history.counts)
+    if ticks is None:
+        return 0, end
+    first, last = asked_ticks(history, ticks)
+    begins = [*history.columns, end]
+    return begins[first], begins[last + 1]
+
+
+def pictures(
+    lines: Sequence[str], answers: Sequence[Answer], trace: bytes,
+    ticks: Optional[Tuple[int, int]],
+) -> List[str]:
+    """One SVG text for each picture of a run."""
+    history = history_of(trace)
+    check_lengths(lines, answers, history)
+    begin, end = moments_of(history, ticks)
+    whole = f"{len(lines)} rows, {ticks_in(history)}"
+    # No row led to the beginning, and it was not answered.
+    led, numbers = ["", *lines], [0, *(answer.answer for answer in answers)]
+    return drawn(Run(
+        cut(history, begin, end), led[begin:end], numbers[begin:end], begin,
+        whole, end - begin == len(led),
+    ))
