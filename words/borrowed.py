@@ -17,12 +17,22 @@ from files import (  # noqa: E402
     FileTrouble, complain, read_file, write_file, write_standard_output,
 )
 from layout import (  # noqa: E402
-    HEADER, Header, Record, header_of, record_of,
+    HEADER, Header, Record, TimerEntry, header_of, record_of,
 )
-from rules import answer_of, broken_rule  # noqa: E402
+from rules import (  # noqa: E402
+    Broken, all_broken_sound, answer_of, broken_rule, first_breach,
+)
+from rules_of_sound import standing  # noqa: E402
+from words import (  # noqa: E402
+    DONE, NONE, NOT_SOUND, PERIODIC, RUNNING, TIMER_STOPPED, WAITS_FOR_MUTEX,
+    WAITS_ON_CONDITION_VARIABLE, WRONG_FORM,
+)
 
 __all__ = [
-    "HEADER", "FileTrouble", "Header", "Record", "answer_of", "broken_rule",
-    "complain", "header_of", "read_file", "record_of", "write_file",
-    "write_standard_output",
+    "DONE", "HEADER", "NONE", "NOT_SOUND", "PERIODIC", "RUNNING",
+    "TIMER_STOPPED", "WAITS_FOR_MUTEX", "WAITS_ON_CONDITION_VARIABLE",
+    "WRONG_FORM", "Broken", "FileTrouble", "Header", "Record", "TimerEntry",
+    "all_broken_sound", "answer_of", "broken_rule", "complain",
+    "first_breach", "header_of", "read_file", "record_of", "standing",
+    "write_file", "write_standard_output",
 ]

@@ -9,7 +9,7 @@ Imported by the words; it is no program.
 
 from __future__ import annotations
 
-from typing import Dict, List, Tuple
+from typing import Dict, List, Optional
 
 from borrowed import (
     NONE, PERIODIC, RUNNING, TIMER_STOPPED, WAITS_FOR_MUTEX,
@@ -17,8 +17,6 @@ from borrowed import (
 )
 
 MISSING = ", which does not exist"
-
-Ring = Tuple[int, ...]
 
 
 def missing(identity: int, count: int) -> str:
@@ -81,45 +79,53 @@ def owners_waited_for(record: Record) -> Dict[int, int]:
     return found
 
 
-def walk(owners: Dict[int, int], begin: int, led: Dict[int, Ring]) -> None:
+def walk(
+    owners: Dict[int, int], begin: int, led: Dict[int, Optional[int]]
+) -> None:
     """Go from owner to owner, and note for all on the way where that led."""
     way: List[int] = []
     at = begin
     while at in owners and at not in led:
-        led[at] = ()
+        led[at] = None
         way.append(at)
         at = owners[at]
-    ring = led.get(at, ())
-    if at in way:
-        members = way[way.index(at):]
-        smallest = members.index(min(members))
-        ring = tuple(members[smallest:] + members[:smallest])
-    led.update(dict.fromkeys(way, ring))
+    first = min(way[way.index(at):]) if at in way else led.get(at)
+    led.update(dict.fromkeys(way, first))
 
 
-def rings(record: Record) -> Dict[int, Ring]:
-    """For each waiting thread the ring that it is in or waits for, if any.
+def rings_led_to(owners: Dict[int, int]) -> Dict[int, Optional[int]]:
+    """The ring each thread is in or waits for, by its smallest, or none.
 
     A walk ends where an earlier one was, so no thread is passed twice.
     """
-    owners = owners_waited_for(record)
-    led: Dict[int, Ring] = {}
+    led: Dict[int, Optional[int]] = {}
     for begin in owners:
         walk(owners, begin, led)
     return led
 
 
+def ring_from(owners: Dict[int, int], first: int) -> List[int]:
+    """The threads of a ring, from one of them on to itself again."""
+    ring = [first, owners[first]]
+    while ring[-1] != first:
+        ring.append(owners[ring[-1]])
+    return ring
+
+
 def ring_lines(record: Record) -> List[str]:
     """Each ring once, from its smallest thread on, and who waits for one."""
-    led = rings(record)
-    lines = [
-        "ring: " + " waits for ".join(map(str, ring + ring[:1]))
-        for ring in sorted(set(led.values())) if ring
+    owners = owners_waited_for(record)
+    led = rings_led_to(owners)
+    rings = [
+        ring_from(owners, identity) for identity in owners
+        if led[identity] == identity
     ]
+    members = {identity for ring in rings for identity in ring}
+    lines = ["ring: " + " waits for ".join(map(str, ring)) for ring in rings]
     lines += [
-        f"thread {identity} waits for a ring, that of thread {ring[0]}"
-        for identity, ring in sorted(led.items())
-        if ring and identity not in ring
+        f"thread {identity} waits for a ring, that of thread {led[identity]}"
+        for identity in owners
+        if led[identity] is not None and identity not in members
     ]
     return lines
 
@@ -127,15 +133,16 @@ def ring_lines(record: Record) -> List[str]:
 def timer_line(record: Record, identity: int, timer: TimerEntry) -> str:
     """When a running timer signals."""
     signalled = timer.condition_variable
+    gone = missing(signalled, len(record.condition_variables))
     unit = "tick" if timer.left == 1 else "ticks"
     line = (
         f"timer {identity} signals condition variable {signalled}"
-        f"{missing(signalled, len(record.condition_variables))}"
-        f" in {timer.left} {unit}"
+        f"{gone}{',' if gone else ''} in {timer.left} {unit}"
     )
     if timer.state != PERIODIC:
         return line
-    return f"{line}, and every {timer.length} after that"
+    every = "tick" if timer.length == 1 else timer.length
+    return f"{line}, and every {every} after that"
 
 
 def wait_lines(record: Record) -> List[str]:
