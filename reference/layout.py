@@ -33,6 +33,14 @@ class Header(NamedTuple):
     tick_count: int
 
 
+class Queue(NamedTuple):
+    """What a queue is known by: one state, one object, one priority."""
+
+    state: int
+    waited_for: int
+    priority: int
+
+
 @dataclass
 class ThreadEntry:
     """A thread as the record has it."""
@@ -91,14 +99,20 @@ class Record:
                 found[owner] = mutex.ceiling
         return found
 
-    def queues(self) -> Dict[Tuple[int, int, int], List[ThreadEntry]]:
-        """The threads of each queue: one state, one object, one priority."""
-        found: Dict[Tuple[int, int, int], List[ThreadEntry]] = {}
+    def queue_of_each(self) -> List[Queue]:
+        """The queue each thread stands in."""
+        found: List[Queue] = []
         waits = (WAITS_FOR_MUTEX, WAITS_ON_CONDITION_VARIABLE)
         for thread, priority in zip(self.threads, self.priorities()):
             waited_for = thread.waited_for if thread.state in waits else NONE
-            key = (thread.state, waited_for, priority)
-            found.setdefault(key, []).append(thread)
+            found.append(Queue(thread.state, waited_for, priority))
+        return found
+
+    def queues(self) -> Dict[Queue, List[ThreadEntry]]:
+        """The threads of each queue."""
+        found: Dict[Queue, List[ThreadEntry]] = {}
+        for thread, queue in zip(self.threads, self.queue_of_each()):
+            found.setdefault(queue, []).append(thread)
         return found
 
 

@@ -1,30 +1,30 @@
-"""Shows a saved record as tables, and names the rule that it breaks.
+"""Shows a saved record as tables and sentences, and names the broken rule.
 
-    record.py FILE ANSWER
+    record_text(data, answer)    all that is shown of a record
+    agrees(data, answer)         whether the second program answers the same
 
-ANSWER is what the proved program says to the record: 0, 15 (wrong form) or 1
-(not sound). The broken rule is found by the second program's own reading, so
-where the two disagree that is said as well. Of a record of wrong form the
-header is shown, if there are bytes enough, and the rest as bytes. The exit
-status is 0, or 1 where the two disagree, or 2 for wrong use or a file in
-trouble.
+The answer is what the proved program says to the record: 0, 15 (wrong form)
+or 1 (not sound). The broken rule is found by the second program's own
+reading, so where the two disagree that is said as well. Of a record of wrong
+form the header is shown, if there are bytes enough, and the rest as bytes.
+Imported by the words; it is no program.
 """
 
 from __future__ import annotations
 
-import sys
-from typing import Dict, List, Sequence
+from typing import Dict, List, Optional, Sequence
 
 from borrowed import (
-    HEADER, FileTrouble, Header, Record, answer_of, broken_rule, complain,
-    header_of, read_file, record_of, write_standard_output,
+    DONE, HEADER, NONE, NOT_SOUND, WRONG_FORM, Broken, Header, Record,
+    all_broken_sound, answer_of, broken_rule, first_breach, header_of,
+    record_of,
 )
 from calls import hexadecimal
+from waits import wait_lines
 
-USAGE = "usage: record.py FILE ANSWER, where ANSWER is 0, 15 or 1"
-NONE = 255
-WRONG_FORM = 15
-MEANINGS: Dict[int, str] = {0: "sound", 15: "wrong form", 1: "not sound"}
+MEANINGS: Dict[int, str] = {
+    DONE: "sound", WRONG_FORM: "wrong form", NOT_SOUND: "not sound",
+}
 THREAD_STATES: Dict[int, str] = {
     1: "ready", 2: "running", 3: "waits for mutex",
     4: "waits on condition variable",
@@ -123,30 +123,47 @@ def byte_lines(data: bytes, first: int) -> List[str]:
     return lines
 
 
+def table_of_each(record: Record) -> List[str]:
+    """The four tables of a record of right form."""
+    tables = (
+        thread_rows(record), mutex_rows(record),
+        condition_variable_rows(record), timer_rows(record),
+    )
+    lines: List[str] = []
+    for title, rows in zip(TABLES, tables):
+        lines += table_lines(title, rows)
+    return lines
+
+
 def record_lines(data: bytes) -> List[str]:
-    """All that a record shows."""
+    """What a record holds: tables and sentences, or bytes."""
     if len(data) < HEADER.size:
         return byte_lines(data, 0)
     lines = header_lines(header_of(data))
     if answer_of(broken_rule(data)) == WRONG_FORM:
         return lines + byte_lines(data, HEADER.size)
     record = record_of(data)
-    tables = (
-        thread_rows(record), mutex_rows(record),
-        condition_variable_rows(record), timer_rows(record),
-    )
-    for title, rows in zip(TABLES, tables):
-        lines += table_lines(title, rows)
+    lines += table_of_each(record) + ["in words:"]
+    return lines + [f"  {line}" for line in wait_lines(record)]
+
+
+def broken_lines(data: bytes, broken: Optional[Broken]) -> List[str]:
+    """The first broken rule with its row, and the other sound ones' names."""
+    if broken is None:
+        return []
+    row, sentence = broken.breach
+    lines = [f"broken rule: {broken.rule}, {row}: {sentence}"]
+    if answer_of(broken.rule) == NOT_SOUND:
+        others = all_broken_sound(record_of(data))[1:]
+        lines += [f"also broken: {', '.join(others)}"] if others else []
     return lines
 
 
 def verdict_lines(data: bytes, answer: int) -> List[str]:
     """The program's answer, the broken rule, and whether the two agree."""
-    rule = broken_rule(data)
-    second = answer_of(rule)
     lines = [f"answer {answer}: {MEANINGS[answer]}"]
-    if rule is not None:
-        lines.append(f"broken rule: {rule}")
+    lines += broken_lines(data, first_breach(data))
+    second = answer_of(broken_rule(data))
     if second != answer:
         lines.append(
             f"the two disagree: the second program answers {second}, "
@@ -155,23 +172,12 @@ def verdict_lines(data: bytes, answer: int) -> List[str]:
     return lines
 
 
-def main(arguments: Sequence[str]) -> int:
-    """Do what the command line asks; the exit status."""
-    answers = [str(number) for number in MEANINGS]
-    if len(arguments) != 2 or arguments[1] not in answers:
-        complain(USAGE)
-        return 2
-    answer = int(arguments[1])
-    try:
-        data = read_file(arguments[0])
-        lines = [f"record of {len(data)} bytes"] + record_lines(data)
-        lines += verdict_lines(data, answer)
-        write_standard_output(("\n".join(lines) + "\n").encode("ascii"))
-    except FileTrouble as trouble:
-        complain(str(trouble))
-        return 2
-    return 0 if answer_of(broken_rule(data)) == answer else 1
+def record_text(data: bytes, answer: int) -> str:
+    """All that is shown of a record, as lines."""
+    lines = [f"record of {len(data)} bytes"] + record_lines(data)
+    return "\n".join(lines + verdict_lines(data, answer)) + "\n"
 
 
-if __name__ == "__main__":
-    sys.exit(main(sys.argv[1:]))
+def agrees(data: bytes, answer: int) -> bool:
+    """Whether the second program answers a record as the proved one does."""
+    return answer_of(broken_rule(data)) == answer
