@@ -225,7 +225,7 @@ TRIALS: List[Trial] = [
     ("run with an option", refuses("no option -x", "run", "-x")),
     ("explain without a file", refuses("not 0", "explain")),
     ("record with three files", refuses("not 3", "record", "a", "b", "c")),
-    ("rows with two files", refuses("not 2", "rows", "a", "b")),
+    ("rows with three files", refuses("not 3", "rows", "a", "b", "c")),
     ("rows with -o alone", refuses("-o takes one", "rows", "calls", "-o")),
     ("show without a file", refuses("not 0", "show")),
     ("test with a file", refuses("not 1", "test", "calls")),

@@ -56,8 +56,7 @@ def explains(room: Path) -> bool:
     """Each row has its number, its line, who called, the call, the answer in
     words and who runs; refusals are counted by number at the end."""
     done = door(room, "explain", put(room, "text", REFUSED_TEXT))
-    lines = done.text.decode().splitlines()
-    rows = [line for line in lines if re.match(r"\s*[1-7]\s", line)]
+    rows, _, refusals = done.text.decode().partition("\n\n")
     wanted = (
         # row, line, and words of the caller, the call, the answer, who runs
         (1, 1, "create thread 4", "thread 1"),
@@ -68,14 +67,17 @@ def explains(room: Path) -> bool:
         (6, 8, "thread 1", "start", "refused 3"),
         (7, 9, "acquire 3", "refused 4"),
     )
-    end = "\n".join(lines[-5:])
-    return done.status == 0 and done.said == b"" and len(rows) == 7 and all(
-        line.split()[:2] == [str(row), str(number)]
-        and all(part in line for part in parts)
-        for line, (row, number, *parts) in zip(rows, wanted)
-    ) and all(
-        re.search(rf"\b{number}\b.*\n?", end) for number in (2, 3, 4)
-    ) and "4" in end
+    lines = rows.splitlines()[1:]
+    counts = (r"4 rows refused", r"2: .*once", r"3: .*once", r"4: .*twice")
+    return (
+        done.status == 0 and done.said == b"" and len(lines) == len(wanted)
+        and all(re.search(count, refusals) for count in counts)
+        and all(
+            line.split()[:2] == [str(row), str(number)]
+            and all(part in line for part in parts)
+            for line, (row, number, *parts) in zip(lines, wanted)
+        )
+    )
 
 
 def explains_from_record(room: Path) -> bool:
@@ -83,8 +85,8 @@ def explains_from_record(room: Path) -> bool:
     put(room, "first", RUN_IN_WORDS)
     door(room, "run", "first", "boot", "record")
     done = door(room, "explain", put(room, "more", b"tick\n"), "record")
-    row = done.text.decode().splitlines()[-2:]
-    return done.status == 0 and "thread 1" in "".join(row)
+    row = done.text.decode().splitlines()[1]
+    return done.status == 0 and row.split()[:4] == ["1", "1", "thread", "1"]
 
 
 def draws(room: Path) -> bool:

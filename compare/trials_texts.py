@@ -89,7 +89,15 @@ def names_from_record(room: Path) -> bool:
     door(room, "run", "first", "boot", "record")
     text = b"thread second = create thread 5 expect 0 2 second\n"
     done = door(room, "run", put(room, "more", text), "record", "-")
-    return done == Done(0, HEADING + b"1 0 2 2\n", b"")
+    later = b"mutex one = create mutex 4\nmutex two = create mutex 4\n"
+    door(room, "run", put(room, "later", later), "record", "second")
+    third = b"mutex three = create mutex 4\nacquire three\n"
+    made = door(room, "rows", put(room, "third", third), "second")
+    row = b"\x06\x02" + bytes(6)
+    return (
+        done == Done(0, HEADING + b"1 0 2 2\n", b"")
+        and made.status == 0 and made.text[8:] == row
+    )
 
 
 def wrong_names(room: Path) -> bool:
@@ -106,12 +114,8 @@ def wrong_names(room: Path) -> bool:
 def refused_name(room: Path) -> bool:
     """A name whose call is refused stands for nothing: that is said, with
     the text's line."""
-    done = door(room, "run", put(room, "a", b"\nthread one = create thread 0\n"))
-    lines = done.said.splitlines()
-    return (
-        done[:2] == (1, HEADING + b"1 6 255 255\n") and len(lines) == 1
-        and b"a:2: " in lines[0] and b"row 1" in lines[0]
-    )
+    text = b"\nthread one = create thread 0\n"
+    return not_done(door(room, "run", put(room, "a", text)), "a:2: ", "1 to 15")
 
 
 def repeats(room: Path) -> bool:
@@ -196,12 +200,18 @@ def rows_stay_rows(room: Path) -> bool:
     rows = b"\xff" * 8 + b"\x0d" + b"\x20" * 7 + b"\x00" * 3
     done = door(room, "run", put(room, "rows", rows))
     lines = b"".join(b"%d 17 255 255\n" % number for number in (1, 2, 3))
-    return done == Done(0, HEADING + lines, b"")
+    # A last row of 1 to 7 bytes, also where those bytes stand in texts.
+    parts = [
+        door(room, "run", put(room, "part", byte * length))
+        for byte in (b"\x09", b"\x0a", b"\x0d") for length in (1, 7)
+    ]
+    part = Done(0, HEADING + b"1 17 255 255\n", b"")
+    return done == Done(0, HEADING + lines, b"") and parts == [part] * 6
 
 
 def no_rows_for_rows(room: Path) -> bool:
     """Rows are no text."""
-    return not_done(door(room, "rows", put(room, "rows", RUN)), "no text")
+    return not_done(door(room, "rows", put(room, "rows", RUN)), "rows:1: ", "no text")
 
 
 def from_standard_input(room: Path) -> bool:

@@ -12,38 +12,23 @@ one ended it.
 
 from __future__ import annotations
 
+import contextlib
 import os
 import signal
+import subprocess
 import sys
-from typing import NoReturn
+from typing import Callable, Dict, List, NoReturn, Sequence, Tuple
 
-
-def end_at_once(number: int, frame: object) -> NoReturn:
-    """While the rest of this file is read, a signal ends the word."""
-    os.write(2, b"tehuamozo: interrupted\n")
-    os._exit(128 + number)
-
-
-# A job in the background is started with interrupts ignored, and stays so.
-if signal.getsignal(signal.SIGINT) is signal.default_int_handler:
-    signal.signal(signal.SIGINT, end_at_once)
-
-import subprocess  # noqa: E402
-from typing import Callable, Dict, List, Optional, Sequence, Tuple  # noqa: E402
-
-import borrowed  # noqa: E402, F401  (the path to the second program)
-import answers  # noqa: E402
-import axioms  # noqa: E402
-import built  # noqa: E402
-import calls  # noqa: E402
-import guide  # noqa: E402
-import running  # noqa: E402
-import showing  # noqa: E402
-import telling  # noqa: E402
-from running import BOOT, NOWHERE  # noqa: E402
-from streams import (  # noqa: E402
-    STANDARD_INPUT, Room, Trouble, complain, printable, put,
-)
+import answers
+import axioms
+import built
+import calls
+import guide
+import running
+import showing
+import telling
+from running import BOOT, NOWHERE
+from streams import STANDARD_INPUT, Room, Trouble, complain, printable, put
 
 DONE, NOT_DONE = 0, 2
 LAST_TICK = 4_294_967_295
@@ -74,10 +59,12 @@ def stop(number: int, frame: object) -> NoReturn:
 
 
 def hear_signals() -> None:
-    """Let signals end the word in order, where they are not ignored."""
+    """Let signals end the word in order, where they are not ignored. An
+    interrupt is held back by ./tehuamozo until here."""
     for number in (signal.SIGINT, signal.SIGTERM, signal.SIGHUP):
         if signal.getsignal(number) is not signal.SIG_IGN:
             signal.signal(number, stop)
+    signal.pthread_sigmask(signal.SIG_UNBLOCK, {signal.SIGINT})
 
 
 def keep_outputs_closed() -> None:
@@ -166,10 +153,11 @@ def record_word(words: Sequence[str]) -> int:
 
 
 def rows_word(words: Sequence[str]) -> int:
-    """rows TEXT [-o FILE]"""
+    """rows TEXT [START] [-o FILE]"""
     files, options = split_option("rows", words, "-o")
-    counted("rows", files, 1)
-    return showing.rows(files[0], options.get("-o"))
+    counted("rows", files, 1, 2)
+    source, start = (*files, BOOT)[:2]
+    return showing.rows(source, start, options.get("-o"))
 
 
 def show_word(words: Sequence[str]) -> int:
@@ -256,8 +244,9 @@ def do(words: Sequence[str]) -> int:
 def refuse_use(wrong: WrongUse) -> int:
     """Say what was wrong, then how it is used; the exit status."""
     complain(str(wrong))
-    words: Optional[List[str]] = [wrong.word] if wrong.word else []
-    os.write(2, guide.usage(*(words or [])).encode())
+    words = [wrong.word] if wrong.word else []
+    with contextlib.suppress(OSError):
+        os.write(2, guide.usage(*words).encode())
     return NOT_DONE
 
 
@@ -266,7 +255,7 @@ def main() -> int:
     keep_outputs_closed()
     try:
         hear_signals()
-        return do([os.fsdecode(os.fsencode(word)) for word in sys.argv[1:]])
+        return do(sys.argv[1:])
     except WrongUse as wrong:
         return refuse_use(wrong)
     except Trouble as trouble:

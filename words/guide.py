@@ -34,7 +34,9 @@ USES: Dict[str, Use] = {
         "load a saved record, say the answer, and show it as tables; save",
         "it again as OUT",
     )),
-    "rows": Use("TEXT [-o FILE]", ("make call rows of a text",)),
+    "rows": Use("TEXT [START] [-o FILE]", (
+        "make call rows of a text; the names in it follow START's ids",
+    )),
     "show": Use("CALLS", ("write calls as a text, one on a line",)),
     "axioms": Use("", (
         "print what the proved programs assume of the system",

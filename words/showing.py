@@ -11,9 +11,12 @@ from typing import List, Optional
 
 import tables
 from calls import text_of
-from running import NOWHERE, finish_record, put_lines, run_told
-from sources import BOOT, Start, all_calls, calls_of, fed, open_calls
+from running import NOWHERE, finish_record, run_told
+from sources import (
+    BOOT, Start, all_calls, counts_at, fed, open_calls, open_start,
+)
 from streams import Room, Trouble, complain, put, read_to, shown_name
+from texts import calls_of_text
 
 DONE, REFUSED = 0, 1
 AT_BOOT = Start(BOOT, BOOT, b"")
@@ -22,13 +25,13 @@ TERMINAL = "rows are not for a terminal: name a file with -o FILE"
 MOST_SHOWN = 1_048_576
 
 
-def rows(name: str, target: Optional[str]) -> int:
-    """The rows of a text, to a file or standard output."""
+def rows(name: str, begin: str, target: Optional[str]) -> int:
+    """The rows of a text, to a file or standard output. Names of a text
+    that is meant for a record follow those that exist there."""
     with Room() as room:
-        source = open_calls(room, name)
-        calls = calls_of(source, AT_BOOT)
-        if calls is None:
-            raise Trouble(f"{shown_name(name)}: is no text of calls")
+        text = read_to(name, room.input(name))
+        counts = counts_at(open_start(room, begin))
+        calls = calls_of_text(shown_name(name), text, counts)
         if target is not None:
             room.output(target).write(calls.rows)
             room.finish()
@@ -54,9 +57,10 @@ def record(name: str, target: Optional[str]) -> int:
         if len(data) == MOST_SHOWN:
             complain(f"{shown_name(name)}: only its first bytes are read")
         output = None if target is None else room.output(target)
-        start, parts = room.put_aside("record", data), []  # type: str, List[bytes]
+        start = room.put_aside("record", data)
         path = NOWHERE if output is None else output.path()
-        done = run_told(fed(b"", name, None), start, path, parts.append)
+        text: List[bytes] = []
+        done = run_told(fed(b"", name, None), start, path, text.append)
         answer = done.refused or DONE
         put(tables.record_text(data, answer).encode("ascii"))
         if not tables.agrees(data, answer):
@@ -66,6 +70,3 @@ def record(name: str, target: Optional[str]) -> int:
         if answer != DONE and target is not None:
             complain(f"{shown_name(target)} is left as it was")
     return REFUSED if answer != DONE else DONE
-
-
-__all__ = ["put_lines", "record", "rows", "show"]

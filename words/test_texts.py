@@ -384,12 +384,17 @@ class ToldApart(Case):
     def test_texts(self) -> None:
         """Texts of all kinds, empty ones too."""
         for data in (
-            b"", b"\n", b"tick", b"tick\r\tstart", b"# \xff\xfe\n tick",
+            b"", b"\n#", b"tick", b"tick\r\tstart", b"# \xff\xfe\n tick",
             b"\xef\xbb\xbftick", "gr\u00fcn".encode(), b"no call at all",
             b"AAAAAAAA",
         ):
             self.assertTrue(is_text(data), data)
             self.assertFalse(no_text_byte(data), data)
+
+    def test_blanks(self) -> None:
+        """Blanks alone are rows, the last of which may be cut short."""
+        for data in (b"\n", b"\r", b"\t", b" ", b"\r\n\t ", b"\r" * 8):
+            self.assertFalse(is_text(data), data)
 
     def test_every_byte(self) -> None:
         """Control bytes but three stand in no text."""

@@ -37,6 +37,7 @@ from streams import Trouble, printable
 # 12 and 13 v is unused, so zero bytes; code 11 is byte 0B itself. So no file
 # with a right call in it is taken for a text.
 NO_TEXT = re.compile(rb"[\x00-\x08\x0b\x0c\x0e-\x1f\x7f]")
+BLANKS = b" \t\r\n"
 BYTE_ORDER_MARK = b"\xef\xbb\xbf"
 # Blanks end a word, and so does the sign of a name given.
 WORDS = re.compile(r"[^\s=]+|=")
@@ -180,8 +181,12 @@ def lines_of(data: bytes) -> List[bytes]:
 
 
 def is_text(data: bytes) -> bool:
-    """Whether bytes are a text; the comments of one can be of any letters."""
-    if no_text_byte(data):
+    """Whether bytes are a text; the comments of one can be of any letters.
+
+    Blanks alone say nothing, and are rows, so that the codes 09, 0A and 0D
+    get their answer where they are a last row of one byte.
+    """
+    if no_text_byte(data) or data and not data.strip(BLANKS):
         return False
     return is_utf_8(data) or all(
         is_utf_8(line.partition(b"#")[0]) for line in lines_of(data)

@@ -1,0 +1,1 @@
+def print_all(): return 0
