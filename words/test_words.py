@@ -17,7 +17,7 @@ import sys
 import tempfile
 import unittest
 from pathlib import Path
-from typing import Dict, List, NamedTuple, Optional, Sequence, Set, Tuple
+from typing import List, NamedTuple, Sequence, Set, Tuple
 
 HERE = Path(__file__).resolve().parent
 REFERENCE = HERE.parent / "reference"
@@ -90,15 +90,12 @@ class Done(NamedTuple):
     complaint: bytes
 
 
-def python(
-    script: Path, *words: str, environment: Optional[Dict[str, str]] = None
-) -> Done:
+def python(script: Path, *words: str) -> Done:
     """Run a script to its end."""
     done = subprocess.run(
         [sys.executable, "-B", str(script), *words],
         stdin=subprocess.DEVNULL, stdout=subprocess.PIPE,
         stderr=subprocess.PIPE, check=False,
-        env=dict(os.environ, **(environment or {})),
     )
     return Done(done.returncode, done.stdout, done.stderr)
 
