@@ -133,7 +133,7 @@ def records_of(trace: bytes) -> Iterator[bytes]:
     known = b""
     while offset < len(trace):
         shape = trace[offset:offset + SHAPE.size]
-        # Few shapes follow each other in a trace, so this is mostly skipped.
+        # Most records have the shape of the one before, which is checked.
         if shape != known:
             known, total = shape, total_of(shape)
         record = trace[offset:offset + total]
@@ -194,7 +194,7 @@ def note_tick(
 def note_record(
     lanes: Sequence[List[Lane]], before: bytes, record: bytes, moment: int
 ) -> None:
-    """Note what changed from one record to the next, the counts apart."""
+    """Note what changed from one record to the next, tick counts apart."""
     if record[HEADER.size:] == before[HEADER.size:]:
         return
     for table, its_lanes in zip(TABLES, lanes):

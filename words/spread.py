@@ -9,13 +9,15 @@ before the first column, as wide as its calls need.
 All columns have one width, enough for the fullest, so that equal lengths are
 equal times. That holds as long as it makes the picture at most MOST_GROWTH
 times as long as it is where each column has the width that its own moments
-need; otherwise it has that, and the picture says so. A moment needs
-LEAST_MOMENT, or ROOM_FOR_CALLS where calls are written in words, which are
-runs of at most MOST_WRITTEN moments. Imported by drawing.py; it is no program.
+need; otherwise each has that, and the picture says so. A moment needs
+LEAST_MOMENT, or ROOM_FOR_CALLS where calls are written in words, as they are
+in pictures of at most MOST_WRITTEN moments. Imported by drawing.py; it is no
+program.
 """
 
 from __future__ import annotations
 
+from itertools import chain
 from typing import Iterator, List, NamedTuple, Tuple
 
 from history import History
@@ -137,13 +139,12 @@ def placed(columns: List[Column]) -> Tuple[List[float], List[float]]:
     lefts: List[float] = []
     rights: List[float] = []
     x = 0.0
-    for column in columns:
-        for ahead, each in moments_in(column):
-            if x + ahead > BAND_WIDTH + SLIP:
-                x = 0.0
-            lefts.append(x)
-            x += each
-            rights.append(x)
+    for ahead, each in chain.from_iterable(map(moments_in, columns)):
+        if x + ahead > BAND_WIDTH + SLIP:
+            x = 0.0
+        lefts.append(x)
+        x += each
+        rights.append(x)
     return lefts, rights
 
 

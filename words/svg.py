@@ -6,9 +6,14 @@ Imported by looks.py and drawing.py; it is no program.
 
 from __future__ import annotations
 
+from functools import lru_cache
 from html import escape
 
+# The bands of a picture begin at the same places, so few numbers are new.
+NUMBERS_KEPT = 65_536
 
+
+@lru_cache(maxsize=NUMBERS_KEPT)
 def number(value: float) -> str:
     """A number as short as it can be written, the same everywhere."""
     return f"{value:.2f}".rstrip("0").rstrip(".")

@@ -582,14 +582,18 @@ class Timers(unittest.TestCase):
 
     def test_label_before_the_next_expiry(self) -> None:
         """The words of a box are not under the mark of an expiry."""
-        calls = rows("04", "05", "01", "0B 00 00 01 88 13") + row("0D") * 20
-        root = drawn(run_of(calls))
-        label, = [t for t in root.findall(SVG + "text")
-                  if t.get("class") == "small"]
-        lefts, = column_lefts(root)
-        self.assertEqual(label.text, "periodic, 5 ticks, condition variable 0")
-        middle, half = float(label.get("x", "")), 5.4 * len(label.text) / 2
-        self.assertLess(middle + half, lefts[5])
+        for length, words in (
+            ("88 13", "periodic, 5 ticks, condition variable 0"),
+            ("D0 07", "0"),
+        ):
+            calls = rows("04", "05", "01", "0B 00 00 01 " + length)
+            root = drawn(run_of(calls + row("0D") * 20))
+            label, = [text for text in root.findall(SVG + "text")
+                      if text.get("class") == "small"]
+            self.assertEqual(label.text, words)
+            lefts, = column_lefts(root)
+            middle, half = float(label.get("x", "")), 5.4 * len(words) / 2
+            self.assertLess(middle + half, lefts[5 if half > 10 else 2])
 
     def test_kinds_are_told_apart(self) -> None:
         """A periodic timer's border is a broken one."""
@@ -833,8 +837,13 @@ class Linear(unittest.TestCase):
     """Four times the rows take about four times the work, not sixteen."""
 
     def test_operations(self) -> None:
-        """Counted, so that the same is found each time."""
-        self.assertLess(operations(turns(1_200)) / operations(turns(300)), 4.5)
+        """Counted, so that the same is found each time; where nothing happens
+        at a tick, what is looked at in vain has the most weight."""
+        few, many = operations(turns(300)), operations(turns(1_200))
+        self.assertLess(many / few, 4.5)
+        few = operations(idle_ticks(0, 1_000))
+        many = operations(idle_ticks(0, 4_000))
+        self.assertLess(many / few, 4.5)
 
     def test_seconds(self) -> None:
         """Measured, since one operation can have much to do."""
