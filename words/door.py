@@ -27,7 +27,8 @@ import guide
 import running
 import showing
 import telling
-from running import BOOT, NOWHERE
+from running import NOWHERE
+from sources import BOOT
 from streams import STANDARD_INPUT, Room, Trouble, complain, printable, put
 
 DONE, NOT_DONE = 0, 2

@@ -19,7 +19,7 @@ import timeline
 from borrowed import HEADER, header_of
 from calls import line_of, split_rows
 from sources import (
-    BOOT, Start, all_calls, calls_of, fed, handed_of, open_calls, open_start,
+    Start, all_calls, calls_of, fed, handed_of, open_calls, open_start,
     running_at,
 )
 from streams import Output, Room, Trouble, complain, put, shown_name
@@ -194,6 +194,16 @@ def numbered(name: str, count: int) -> List[str]:
     return [f"{stem}-{number}{PICTURE}" for number in range(1, count + 1)]
 
 
+def say_older(name: str, count: int) -> None:
+    """Say which file of an earlier picture stands beside the new ones."""
+    stem = name[:-len(PICTURE)]
+    first = 1 if count == 1 else count + 1
+    others = [f"{stem}-{first}{PICTURE}"] + ([] if count == 1 else [name])
+    for each in others:
+        if os.path.exists(each):
+            complain(f"{shown_name(each)} is of an earlier picture, and stays")
+
+
 def put_pictures(room: Room, name: str, pictures: Sequence[str]) -> None:
     """Write pictures, and say their names where there are several."""
     names = numbered(name, len(pictures))
@@ -205,6 +215,7 @@ def put_pictures(room: Room, name: str, pictures: Sequence[str]) -> None:
     room.finish()
     if len(names) > 1:
         put_lines(shown_name(each) for each in names)
+    say_older(name, len(names))
 
 
 def draw(
@@ -224,11 +235,9 @@ def draw(
         if answers is None:
             return say_refused(start, [picture])
         trace = traced(room, calls, start)
-        lines = [line_of(row) for row in split_rows(calls.rows)]
+        rows = split_rows(calls.rows)
+        lines = [line_of(row, calls.names) for row in rows]
         with telling(lambda: "drawing the picture"):
             drawn = timeline.pictures(lines, answers, trace, ticks)
         put_pictures(room, picture, drawn)
     return DONE
-
-
-__all__ = ["BOOT", "NOWHERE", "draw", "explain_calls", "run"]

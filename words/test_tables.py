@@ -20,6 +20,7 @@ from pathlib import Path
 from typing import Dict, List, Sequence, Set, Tuple
 
 from tables import agrees, record_text
+from testing import run_tests
 
 REFERENCE = Path(__file__).resolve().parent.parent / "reference"
 NONE = 255
@@ -486,26 +487,5 @@ def program(words: Sequence[str]) -> str:
     ).stdout.decode()
 
 
-def failed_tests(result: unittest.TestResult) -> Set[str]:
-    """The tests that failed; one with several failed parts counts once."""
-    found: Set[str] = set()
-    for test, _ in result.failures + result.errors:
-        found.add(getattr(test, "test_case", test).id())
-    return found
-
-
-def main() -> int:
-    """Run everything; the exit status."""
-    tests = unittest.defaultTestLoader.loadTestsFromModule(
-        sys.modules[__name__]
-    )
-    runner = unittest.TextTestRunner(stream=sys.stdout, verbosity=2)
-    result = runner.run(tests)
-    failed = len(failed_tests(result))
-    passed = max(result.testsRun - failed, 0)
-    print(f"{passed} passed, {failed} failed", flush=True)
-    return 0 if failed == 0 and passed > 0 else 1
-
-
 if __name__ == "__main__":
-    sys.exit(main())
+    sys.exit(run_tests(__name__))

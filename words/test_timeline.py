@@ -27,6 +27,7 @@ from calls import line_of, split_rows
 from drawing import LEFT, TALLEST
 from spread import BAND_WIDTH
 from streams import Trouble
+from testing import run_tests
 from timeline import pictures
 
 # Of the second program, which borrowed.py has put first in the path.
@@ -1015,26 +1016,5 @@ class Trace(unittest.TestCase):
                     self.assertEqual(len(found), 1)
 
 
-def failed_tests(result: unittest.TestResult) -> Set[str]:
-    """The tests that failed; one with several failed parts counts once."""
-    found: Set[str] = set()
-    for test, _ in result.failures + result.errors:
-        found.add(getattr(test, "test_case", test).id())
-    return found
-
-
-def main() -> int:
-    """Run everything; the exit status."""
-    tests = unittest.defaultTestLoader.loadTestsFromModule(
-        sys.modules[__name__]
-    )
-    runner = unittest.TextTestRunner(stream=sys.stdout, verbosity=2)
-    result = runner.run(tests)
-    failed = len(failed_tests(result))
-    passed = max(result.testsRun - failed, 0)
-    print(f"{passed} passed, {failed} failed", flush=True)
-    return 0 if failed == 0 and passed > 0 else 1
-
-
 if __name__ == "__main__":
-    sys.exit(main())
+    sys.exit(run_tests(__name__))
