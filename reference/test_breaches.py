@@ -212,6 +212,14 @@ class Breaches(unittest.TestCase):
             ["thread 1", "thread 5", "thread 6"],
         )
 
+    def test_ready_above_the_lowest_of_two(self) -> None:
+        """Where two run, at 9 and 6, one that is ready at 7 is above one."""
+        record = record_of(changed(STARTED, {45: 2, 48: 7, 51: 0}))
+        found = list(dict(SOUND_RULES)["sound-ready-above"](record))
+        self.assertEqual(found, [Breach("thread 6", (
+            "it is ready at priority 7, above thread 5, which runs at 6"
+        ))])
+
     def test_every_single_byte(self) -> None:
         """Whatever byte is changed, a sentence says it in one plain line."""
         for offset in range(len(STARTED)):
