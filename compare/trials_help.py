@@ -15,9 +15,10 @@ from pathlib import Path
 from typing import Callable, List, Tuple
 
 from trying import (
-    RUN, SECONDS, Done, Terminal, Trial, begin, door, one_line, put,
+    RUN, SECONDS, TOP, Done, Terminal, Trial, begin, door, one_line, put,
 )
 
+TRUST = TOP / "docs" / "TRUST.md"
 # Longer than it takes until progress is said, once the run program writes.
 A_WHILE = 3
 WORDS = (
@@ -200,6 +201,40 @@ def interrupted_at_any_time(room: Path) -> bool:
     return True
 
 
+def prints_axioms(room: Path) -> bool:
+    """axioms prints what each program assumes, and the page on trust names
+    the same ten."""
+    done = door(room, "axioms")
+    lines = done.text.decode().splitlines()
+    begins = [n for n, line in enumerate(lines) if not line.startswith(" ")]
+    names = {
+        lines[first].partition(":")[0]: [
+            line.strip() for line in lines[first + 1:after - 1]
+        ]
+        for first, after in zip(begins, [*begins[1:], len(lines)])
+    }
+    page = TRUST.read_text("utf-8")
+    ten = {name.rpartition("::")[2] for name in names["run"]}
+    return (
+        done.status == 0 and done.said == b"" and len(ten) == 10
+        and names["run"] == names["trace"] == names["records"]
+        and names["wheel_work"] == ["libc::write"]
+        and all(re.search(rf"\b{name}\b", page) for name in ten)
+    )
+
+
+def counts_definitions(room: Path) -> bool:
+    """The page on trust has as many lines to believe as its command says."""
+    page = TRUST.read_text("utf-8")
+    command = next(
+        line.strip() for line in page.splitlines() if "| wc -l" in line
+    )
+    done = subprocess.run(
+        ["sh", "-c", command], cwd=TOP, capture_output=True, check=True
+    )
+    return f"{int(done.stdout):,} lines" in page
+
+
 def bench_tells(room: Path) -> bool:
     """bench says what it measures, and an interrupt ends it in one line."""
     screen = Terminal()
@@ -244,4 +279,6 @@ TRIALS: List[Trial] = [
     ("words that are interrupted", interrupts),
     ("words that are interrupted at any time", interrupted_at_any_time),
     ("bench", bench_tells),
+    ("axioms", prints_axioms),
+    ("the definitions to believe, counted", counts_definitions),
 ]

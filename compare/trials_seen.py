@@ -13,7 +13,9 @@ from pathlib import Path
 from typing import List, Sequence, Tuple
 from xml.etree import ElementTree
 
-from trying import BOOT, RUN_IN_WORDS, Done, Trial, door, example, not_done, put
+from trying import (
+    BOOT, RUN_IN_WORDS, Done, Trial, door, example, not_done, put,
+)
 
 REFUSED_TEXT = b"""\
 create thread 4

@@ -115,7 +115,8 @@ def refused_name(room: Path) -> bool:
     """A name whose call is refused stands for nothing: that is said, with
     the text's line."""
     text = b"\nthread one = create thread 0\n"
-    return not_done(door(room, "run", put(room, "a", text)), "a:2: ", "1 to 15")
+    done = door(room, "run", put(room, "a", text))
+    return not_done(done, "a:2: ", "1 to 15")
 
 
 def repeats(room: Path) -> bool:
@@ -211,7 +212,8 @@ def rows_stay_rows(room: Path) -> bool:
 
 def no_rows_for_rows(room: Path) -> bool:
     """Rows are no text."""
-    return not_done(door(room, "rows", put(room, "rows", RUN)), "rows:1: ", "no text")
+    done = door(room, "rows", put(room, "rows", RUN))
+    return not_done(done, "rows:1: ", "no text")
 
 
 def from_standard_input(room: Path) -> bool:

@@ -171,7 +171,8 @@ def show_word(words: Sequence[str]) -> int:
 def axioms_word(words: Sequence[str]) -> int:
     """axioms"""
     counted("axioms", words, 0)
-    return axioms.print_all()
+    running.put_lines(axioms.axiom_lines())
+    return DONE
 
 
 def test_word(words: Sequence[str]) -> int:

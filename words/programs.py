@@ -55,8 +55,9 @@ def command_of(program: str) -> List[str]:
     if kit is None:
         raise Trouble("rt is not found, and its emulator is needed here")
     tools = kit / "on" / platform.machine() / "toolchain"
-    emulator = [str(tools / "bin" / "qemu-x86_64"), str(tools / "lib" / LOADER)]
-    return [*emulator, "--library-path", str(tools / "lib"), program]
+    emulator, library = tools / "bin" / "qemu-x86_64", tools / "lib"
+    loader = [str(library / LOADER), "--library-path", str(library)]
+    return [str(emulator), *loader, program]
 
 
 @contextlib.contextmanager

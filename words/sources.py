@@ -85,7 +85,9 @@ def is_sound(start: Start) -> bool:
 
 def counts_at(start: Start) -> Sequence[int]:
     """How many threads, mutexes, condition variables and timers exist."""
-    return header_of(start.record).counts if is_sound(start) else COUNTS_AT_BOOT
+    if not is_sound(start):
+        return COUNTS_AT_BOOT
+    return header_of(start.record).counts
 
 
 def running_at(start: Start) -> int:
