@@ -235,6 +235,33 @@ def counts_definitions(room: Path) -> bool:
     return f"{int(done.stdout):,} lines" in page
 
 
+def timeline_tells(room: Path) -> bool:
+    """A long timeline says how much of the run is traced."""
+    put(room, "text", b"create thread 4\nstart\ntick 400000\n")
+    screen = Terminal()
+    word = begin(
+        room, "timeline", "text", "-o", "one.svg", stderr=screen.line
+    )
+    screen.hand_over()
+    said = screen.until(b"% of the run traced")
+    os.killpg(word.pid, signal.SIGINT)
+    word.communicate(timeout=SECONDS)
+    said = screen.until(b"", said)
+    screen.close()
+    told = re.search(rb"tehuamozo: \d+% of the run traced", said) is not None
+    ended = said.endswith(b"tehuamozo: interrupted\r\n")
+    left = os.listdir(room) == ["text"]
+    return word.returncode == 130 and told and ended and left
+
+
+def readme_has_words(room: Path) -> bool:
+    """The README has each word with what it takes, as help has it."""
+    uses = re.findall(rb"^  (\./tehuamozo .*)$", door(room, "help").text, re.M)
+    page = (TOP / "README.md").read_text("utf-8")
+    missing = [use.decode() for use in uses if use.decode() not in page]
+    return len(uses) == len(WORDS) and missing == []
+
+
 def bench_tells(room: Path) -> bool:
     """bench says what it measures, and an interrupt ends it in one line."""
     screen = Terminal()
@@ -278,7 +305,9 @@ TRIALS: List[Trial] = [
     ("a long run that is interrupted", stops_when_interrupted),
     ("words that are interrupted", interrupts),
     ("words that are interrupted at any time", interrupted_at_any_time),
+    ("a long timeline", timeline_tells),
     ("bench", bench_tells),
+    ("the README's words", readme_has_words),
     ("axioms", prints_axioms),
     ("the definitions to believe, counted", counts_definitions),
 ]

@@ -15,6 +15,7 @@ import platform
 import subprocess
 import tempfile
 import threading
+from pathlib import Path
 from typing import IO, Callable, Iterator, List, NamedTuple, Optional, Sequence
 
 import built
@@ -222,13 +223,28 @@ def outcome(
     return Outcome(None, rows, said)
 
 
+def place_read(process: int, path: str) -> int:
+    """How much of a file a process has read, by what the system keeps for
+    each open file."""
+    folder = Path("/proc") / str(process)
+    with contextlib.suppress(OSError, ValueError, IndexError):
+        for file in (folder / "fd").iterdir():
+            if os.readlink(file) == path:
+                place = (folder / "fdinfo" / file.name).read_text("ascii")
+                return int(place.split()[1])
+    return 0
+
+
 def trace_calls(
-    program: IO[bytes], calls: str, start: str, out: str
+    program: IO[bytes], calls: str, start: str, out: str,
+    tell: Callable[[int], None],
 ) -> None:
-    """Write the records that a run of a file of rows passes through."""
+    """Write the records that a run of a file of rows passes through. What
+    is told is the process, whose place in the calls can be looked at."""
     words = [calls, start, out]
     with tempfile.TemporaryFile() as said:
         with started(program, words, said, False) as process:
+            tell(process.pid)
             read_text(process, Text(lambda data: None))
         words = said_in(said).decode("utf-8", "replace").strip()
     if process.returncode != 0 or words:

@@ -179,9 +179,17 @@ def explain_calls(name: str, begin: str) -> int:
 def traced(room: Room, calls: texts.Calls, start: Start) -> bytes:
     """The records that a run passes through, one after the other."""
     rows, out = room.put_aside("rows", calls.rows), room.path("trace")
+    processes: List[int] = []
+
+    def traced_so_far() -> str:
+        read = programs.place_read(processes[0], rows) if processes else 0
+        return f"{read * 100 // max(len(calls.rows), 1)}% of the run traced"
+
     with built.program("trace") as program:
-        with telling(lambda: "tracing the run"):
-            programs.trace_calls(program, rows, start.path, out)
+        with telling(traced_so_far):
+            programs.trace_calls(
+                program, rows, start.path, out, processes.append
+            )
     with open(out, "rb") as stream:
         return stream.read()
 
