@@ -17,6 +17,7 @@ import time
 from pathlib import Path
 from typing import Callable, Dict, Iterator, List, Set, Tuple
 
+from held import find_toolchain
 from trying import (
     BOOT, RUN, RUN_TEXT, SECONDS, TOP, Done, Trial, door, not_done, put,
 )
@@ -63,6 +64,10 @@ class Copy:
         place.write_text(text)
         place.chmod(0o755)
         (self.room / "kit" / "KIT-ID").write_text("a stand-in\n")
+        # Off x86-64 the kit's emulator runs the program.
+        machines = self.room / "kit" / "on"
+        if not machines.is_symlink():
+            machines.symlink_to(find_toolchain().parent.parent)
 
     def environment(self) -> Dict[str, str]:
         """With the stand-in before the prover."""
