@@ -43,7 +43,8 @@ ANSWERS = (
 
 def helps(room: Path) -> bool:
     """help, --help, -h and nothing at all print every word and end well."""
-    done = [door(room, *words) for words in (["help"], ["--help"], ["-h"], [])]
+    done = [door(room, word) for word in ("help", "--help", "-h")]
+    done.append(door(room))
     names = all(f"tehuamozo {word}".encode() in done[0].text for word in WORDS)
     return all(each == Done(0, done[0].text, b"") for each in done) and names
 

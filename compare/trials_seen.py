@@ -59,15 +59,15 @@ def explains(room: Path) -> bool:
     words and who runs; refusals are counted by number at the end."""
     done = door(room, "explain", put(room, "text", REFUSED_TEXT))
     rows, _, refusals = done.text.decode().partition("\n\n")
-    wanted = (
-        # row, line, and words of the caller, the call, the answer, who runs
-        (1, 1, "create thread 4", "thread 1"),
-        (2, 4, "tick", "refused 2", "stopped"),
-        (3, 5, "start", "done", "thread 1"),
-        (4, 6, "thread 1", "tick", "done"),
-        (5, 7, "thread 1", "acquire 3", "refused 4", "does not exist"),
-        (6, 8, "thread 1", "start", "refused 3"),
-        (7, 9, "acquire 3", "refused 4"),
+    # The row, the line, and words of the caller, call, answer, who runs.
+    wanted: Sequence[Tuple[str, str, Sequence[str]]] = (
+        ("1", "1", ("create thread 4", "thread 1")),
+        ("2", "4", ("tick", "refused 2", "stopped")),
+        ("3", "5", ("start", "done", "thread 1")),
+        ("4", "6", ("thread 1", "tick", "done")),
+        ("5", "7", ("thread 1", "acquire 3", "refused 4", "not exist")),
+        ("6", "8", ("thread 1", "start", "refused 3")),
+        ("7", "9", ("acquire 3", "refused 4")),
     )
     lines = rows.splitlines()[1:]
     counts = (r"4 rows refused", r"2: .*once", r"3: .*once", r"4: .*twice")
@@ -75,9 +75,9 @@ def explains(room: Path) -> bool:
         done.status == 0 and done.said == b"" and len(lines) == len(wanted)
         and all(re.search(count, refusals) for count in counts)
         and all(
-            line.split()[:2] == [str(row), str(number)]
+            line.split()[:2] == [row, number]
             and all(part in line for part in parts)
-            for line, (row, number, *parts) in zip(lines, wanted)
+            for line, (row, number, parts) in zip(lines, wanted)
         )
     )
 

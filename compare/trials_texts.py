@@ -32,6 +32,8 @@ NAMED_TEXT = HEADING + (
     b"1 0 1 255\n2 0 0 255\n3 0 0 255\n4 0 255 1\n5 0 255 1\n6 0 255 0\n"
 )
 NAMED_IN_IDS = b"wait 0 0\n"
+# Words after `run` that take standard input and begin at boot.
+SAME_RUN: Sequence[Sequence[str]] = ((), ("-",), ("-", "boot", "-"))
 
 
 def rows_and_show(room: Path) -> bool:
@@ -223,8 +225,7 @@ def from_standard_input(room: Path) -> bool:
     record = door(room, "record", "-", given=BOOT)
     run = [
         door(room, "run", *words, given=given)
-        for words in ([], ["-"], ["-", "boot", "-"])
-        for given in (RUN, RUN_IN_WORDS)
+        for words in SAME_RUN for given in (RUN, RUN_IN_WORDS)
     ]
     drawn = door(room, "timeline", "-", "-o", "one.svg", given=RUN_IN_WORDS)
     ElementTree.parse(room / "one.svg")

@@ -15,7 +15,7 @@ from actions import Action
 from book import Book
 from chance import Chance
 from rows import ROW, answer_row
-from words import Answer
+from words import START, TICK, Answer
 
 Weights = Tuple[Tuple[int, Action], ...]
 Range = Tuple[int, int]
@@ -195,24 +195,24 @@ class Walk:
             rows: Optional[bytes] = self.chance.pick(self.laid)(self)
             if rows:
                 return rows
-        return actions.call(actions.TICK)
+        return actions.call(TICK)
 
     def begin(self) -> None:
         """Create what the taste asks for, in a mixed order, and start."""
         wanted: List[Action] = []
-        for action, counts in (
+        for create, counts in (
             (actions.create_thread, self.taste.threads),
             (actions.create_mutex, self.taste.mutexes),
             (actions.create_condition_variable,
              self.taste.condition_variables),
             (actions.create_timer, self.taste.timers),
         ):
-            wanted += [action] * self.chance.between(*counts)
+            wanted += [create] * self.chance.between(*counts)
         for action in self.chance.shuffled(wanted):
             self.do(action(self) or b"")
             if self.chance.percent(3):
                 self.do(self.proposal())
-        self.do(actions.call(actions.START))
+        self.do(actions.call(START))
 
     def go(self, rows: int) -> None:
         """Go on for so many rows, or a few more where an action ends."""

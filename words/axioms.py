@@ -13,7 +13,7 @@ from __future__ import annotations
 import re
 import struct
 from pathlib import Path
-from typing import Dict, Iterator, List, Tuple
+from typing import Dict, Iterator, List, NamedTuple
 
 import built
 from streams import Trouble
@@ -37,11 +37,20 @@ SYMBOL = struct.Struct("<IxxH16x")
 SYMBOL_TABLE, OPEN = 2, 0
 
 
-def sections_of(data: bytes) -> List[Tuple[int, int, int, int]]:
-    """The kind, place, length and link of each section."""
+class Section(NamedTuple):
+    """A section of an object file; a table of symbols has its names' link."""
+
+    kind: int
+    place: int
+    length: int
+    link: int
+
+
+def sections_of(data: bytes) -> List[Section]:
+    """The sections of an object file."""
     first, size, count = SECTIONS.unpack_from(data)
     return [
-        SECTION.unpack_from(data, first + index * size)
+        Section(*SECTION.unpack_from(data, first + index * size))
         for index in range(count)
     ]
 
@@ -54,11 +63,11 @@ def text_at(data: bytes, place: int) -> str:
 def open_names(data: bytes) -> Iterator[str]:
     """The names that an object file leaves open."""
     sections = sections_of(data)
-    for kind, place, length, link in sections:
-        if kind != SYMBOL_TABLE:
+    for table in sections:
+        if table.kind != SYMBOL_TABLE:
             continue
-        names = sections[link][1]
-        for symbol in range(place, place + length, SYMBOL.size):
+        names, end = sections[table.link].place, table.place + table.length
+        for symbol in range(table.place, end, SYMBOL.size):
             name, section = SYMBOL.unpack_from(data, symbol)
             if section == OPEN and name:
                 yield text_at(data, names + name)

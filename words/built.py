@@ -193,7 +193,7 @@ def locked() -> Iterator[int]:
 def last_proved(log: Path) -> str:
     """The crate that was proved last, by the prover's words so far."""
     try:
-        found = PROVED.findall(log.read_bytes())
+        found: List[bytes] = PROVED.findall(log.read_bytes())
     except OSError:
         return ""
     return found[-1].decode() if found else ""

@@ -76,7 +76,7 @@ class Table(NamedTuple):
     """A table of the record that has lanes: what an entry of it shows."""
 
     noun: str
-    index: int
+    number: int
     first: int
     last: int
     look_of: Callable[[bytes], Optional[Look]]
@@ -124,7 +124,7 @@ def total_of(shape: bytes) -> int:
         raise Trouble("has a count that no record has")
     if packed(counts) != (offsets, total):
         raise Trouble("has tables that are not packed")
-    return total
+    return int(total)
 
 
 def records_of(trace: bytes) -> Iterator[bytes]:
@@ -155,7 +155,7 @@ def note_entries(
     lanes: List[Lane], table: Table, entries: bytes, moment: int
 ) -> None:
     """Note in its lane each entry that shows something else than before."""
-    size = ENTRY_SIZES[table.index]
+    size = ENTRY_SIZES[table.number]
     for identity, offset in enumerate(range(0, len(entries), size)):
         shown = entries[offset + table.first:offset + table.last]
         look = table.look_of(shown)
@@ -198,8 +198,8 @@ def note_record(
     if record[HEADER.size:] == before[HEADER.size:]:
         return
     for table, its_lanes in zip(TABLES, lanes):
-        entries = entries_of(record, table.index)
-        if entries != entries_of(before, table.index):
+        entries = entries_of(record, table.number)
+        if entries != entries_of(before, table.number):
             note_entries(its_lanes, table, entries, moment)
 
 

@@ -246,6 +246,6 @@ def trace_calls(
         with started(program, words, said, False) as process:
             tell(process.pid)
             read_text(process, Text(lambda data: None))
-        words = said_in(said).decode("utf-8", "replace").strip()
-    if process.returncode != 0 or words:
-        raise Trouble(f"the trace ended early: {words or 'no reason is said'}")
+        why = said_in(said).decode("utf-8", "replace").strip()
+    if process.returncode != 0 or why:
+        raise Trouble(f"the trace ended early: {why or 'no reason is said'}")

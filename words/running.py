@@ -16,7 +16,7 @@ import explain
 import programs
 import texts
 import timeline
-from borrowed import HEADER, header_of
+from borrowed import HEADER, Answer, header_of
 from calls import line_of, split_rows
 from sources import (
     Start, all_calls, calls_of, fed, handed_of, open_calls, open_start,
@@ -32,10 +32,10 @@ PICTURE = ".svg"
 MANY_LINES = 1_000
 
 
-def answers_in(text: bytes) -> List[texts.Answer]:
+def answers_in(text: bytes) -> List[Answer]:
     """The answers of a run's text."""
     lines = text.split(b"\n")[1:-1]
-    return [texts.Answer(*map(int, line.split()[1:])) for line in lines]
+    return [Answer(*map(int, line.split()[1:])) for line in lines]
 
 
 def share(answered: int, handed: programs.Handed) -> str:
@@ -70,7 +70,7 @@ def run_told(
 
 
 def say_unmet(
-    calls: Optional[texts.Calls], answers: Sequence[texts.Answer]
+    calls: Optional[texts.Calls], answers: Sequence[Answer]
 ) -> int:
     """Say which expectations of a text are not met; the exit status."""
     lines = texts.unmet(calls, answers) if calls is not None else []
@@ -140,7 +140,7 @@ def run(name: str, begin: str, last: str) -> int:
 
 def answers_of(
     calls: texts.Calls, start: Start
-) -> Optional[List[texts.Answer]]:
+) -> Optional[List[Answer]]:
     """The proved program's answers, or none where START is refused, which
     is printed as the program says it."""
     parts: List[bytes] = []

@@ -211,10 +211,11 @@ class Tables(unittest.TestCase):
         texts = [b"\x1b[31m\x07\r\n" * 9, bytes(range(256))]
         texts += [chance.randbytes(chance.randrange(80)) for _ in range(300)]
         for _ in range(300):
-            data = bytearray(FULL)
+            damaged = bytearray(FULL)
             for _ in range(chance.randrange(1, 9)):
-                data[chance.randrange(24, len(data))] = chance.randrange(256)
-            texts.append(bytes(data))
+                place = chance.randrange(24, len(damaged))
+                damaged[place] = chance.randrange(256)
+            texts.append(bytes(damaged))
         for data in texts:
             text = record_text(data, 15)
             self.assertTrue(text.isascii() and text.endswith("\n"))

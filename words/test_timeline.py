@@ -128,9 +128,11 @@ def boxes(root: ElementTree.Element, kind: str) -> List[Box]:
     found: List[Box] = []
     for box in root.findall(SVG + "rect"):
         if box.get("class") == kind:
-            place = [float(box.get(key, "")) for key in ("x", "y", "width")]
+            x, y, width = (
+                float(box.get(key, "")) for key in ("x", "y", "width")
+            )
             title = box.findtext(SVG + "title") or ""
-            found.append(Box(*place, title, box.get("fill", "")))
+            found.append(Box(x, y, width, title, box.get("fill", "")))
     return found
 
 
