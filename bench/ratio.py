@@ -91,9 +91,14 @@ def compare_runs(plain: list[str], proved: list[str], mix: pathlib.Path, rounds:
 
 
 def say(line: str) -> None:
-    """A line of a table."""
+    """A line of a table; where it cannot be written, the measurement ends."""
     tell("")
-    print(line, flush=True)
+    data = f"{line}\n".encode()
+    try:
+        while data:
+            data = data[os.write(1, data):]
+    except OSError as error:
+        sys.exit(f"tehuamozo: standard output: cannot be written: {error.strerror}")
 
 
 def main() -> None:

@@ -11,15 +11,19 @@ from __future__ import annotations
 import contextlib
 import fcntl
 import os
+import platform
 import shutil
+import signal
 import subprocess
+import sys
 import time
 from pathlib import Path
 from typing import Callable, Dict, Iterator, List, Set, Tuple
 
 from held import find_toolchain
 from trying import (
-    BOOT, RUN, RUN_TEXT, SECONDS, TOP, Done, Trial, door, not_done, put,
+    BOOT, RUN, RUN_TEXT, SECONDS, TOP, Done, Terminal, Trial, door,
+    hear_interrupts, not_done, one_line, put,
 )
 
 # A prover that takes a while, so that two words meet.
@@ -29,12 +33,25 @@ echo started >>"{count}"
 if [ -e "{busy}" ]; then echo two at once >>"{count}"; fi
 : >"{busy}"
 sleep 1
-mkdir -p target/bin
-cp "{kept}" "target/bin/$2"
+mkdir -p target/bin target/staticlib
+case $1 in
+check) cp "{kept}/$2" "target/bin/$2" ;;
+staticlib) echo proved >"target/staticlib/lib$2.a" ;;
+esac
 rm "{busy}"
 echo "rt: $2 proved (1 s)"
 """
 REFUSES = "#!/bin/sh\necho 'rt: run NOT PROVED'\nexit 1\n"
+# One that says how far it is, and does not come to its end.
+ENDLESS = """\
+#!/bin/sh
+case $1 in check | ci) ;; *) exit ;; esac
+echo started >>"{count}"
+echo "rt: laws proved (1 s)"
+sleep {seconds} &
+echo $! >"{child}"
+wait
+"""
 NOT_PROVED = b"#!/bin/sh\necho not the proved one\n"
 NOBODY = 65_534
 
@@ -53,7 +70,7 @@ class Copy:
         (self.top / "target" / "bin").mkdir(parents=True)
         self.put_prover(STAND_IN.format(
             count=self.count, busy=room / "busy",
-            kept=TOP / "target" / "bin" / "run",
+            kept=TOP / "target" / "bin",
         ))
         self.calls = put(room, "calls", RUN)
 
@@ -100,9 +117,22 @@ class Copy:
             return []
         return self.count.read_text().splitlines()
 
-    def program(self) -> Path:
-        """The program of the copy."""
-        return self.top / "target" / "bin" / "run"
+    def program(self, name: str = "run") -> Path:
+        """A program of the copy."""
+        return self.top / "target" / "bin" / name
+
+    def python(self, *words: str) -> Done:
+        """A Python program of the copy."""
+        done = subprocess.run(
+            [sys.executable, "-B", *words], cwd=self.top, check=False,
+            capture_output=True, env=self.environment(), timeout=SECONDS,
+        )
+        return Done(done.returncode, done.stdout, done.stderr)
+
+    def edit(self, name: str, text: str = "\n") -> None:
+        """Change a source of the copy."""
+        with (self.top / name).open("a") as stream:
+            stream.write(text)
 
 
 def in_copy(tried: Callable[[Copy], bool]) -> Callable[[Path], bool]:
@@ -156,6 +186,32 @@ def never_another(copy: Copy) -> bool:
     return copy.runs() and len(copy.started()) == 2
 
 
+def never_another_trace(copy: Copy) -> bool:
+    """So it is for the program that timeline needs besides."""
+    words = ("timeline", copy.calls, "-o", "one.svg")
+    first = copy.word(*words)
+    picture = (copy.room / "one.svg").read_bytes()
+    copy.program("trace").write_bytes(NOT_PROVED)
+    (copy.room / "one.svg").unlink()
+    second = copy.word(*words)
+    again = (copy.room / "one.svg").read_bytes()
+    right = first == second == Done(0, b"", b"") and picture == again
+    return right and len(copy.started()) == 3
+
+
+def never_another_library(copy: Copy) -> bool:
+    """And for the library that bench links."""
+    words = ("-c", "import sys; sys.path.insert(0, 'words'); import built; "
+             "print(built.library('tally').read_text())")
+    library = copy.top / "target" / "staticlib" / "libtally.a"
+    first = copy.python(*words)
+    second = copy.python(*words)
+    library.write_text("not the proved one")
+    third = copy.python(*words)
+    right = Done(0, b"proved\n\n", b"")
+    return [first, second, third] == [right] * 3 and len(copy.started()) == 2
+
+
 def without_stamp(copy: Copy) -> bool:
     """A program without a stamp is not run: it is built again."""
     put(copy.room, "tree/target/bin/run", NOT_PROVED)
@@ -164,20 +220,208 @@ def without_stamp(copy: Copy) -> bool:
 
 
 def other_sources(copy: Copy) -> bool:
-    """Any source that changed has it built again: code, specs, proofs, the
-    list of crates, also below the program."""
+    """Any source that changed has it built again: code, specs, proofs, what
+    the prover runs it with, the list of crates, also below the program; and
+    so has another machine in the stamp."""
     if not copy.runs():
         return False
     changed = [
         "crates/run/src/main.rt", "crates/rules/specs/Lib.antt",
-        "crates/queue/proofs/Lib.antt", "crates.txt",
+        "crates/queue/proofs/Lib.antt", "crates/run/args",
+        "crates/run/stdout", "crates/run/stdin", "crates/run/data/more",
+        "crates.txt", "target/door/run",
     ]
     for times, name in enumerate(changed, 2):
-        with (copy.top / name).open("a") as stream:
-            stream.write("runs: \n" if name == "crates.txt" else "\n")
+        copy.edit(name, "runs: \n" if name == "crates.txt" else "\n")
         if not copy.runs() or len(copy.started()) != times:
             return False
-    return True
+    stamp = (copy.top / "target" / "door" / "run").read_text()
+    other = stamp.replace("machine ", "machine another ")
+    put(copy.room, "tree/target/door/run", other.encode())
+    return copy.runs() and len(copy.started()) == len(changed) + 2
+
+
+def only_what_counts(copy: Copy) -> bool:
+    """What the program does not stand on has nothing built again."""
+    if not copy.runs():
+        return False
+    copy.edit("crates/rules/must-fail/more.edit")
+    copy.edit("crates/tally/src/lib.rt")
+    return copy.runs() and len(copy.started()) == 1
+
+
+def gate_stamps(copy: Copy) -> bool:
+    """What the gate proves and builds is stamped, and not built again."""
+    stamp = ("words/stamp.py", "run", "--")
+    done = copy.python(*stamp, "rt", "check", "run")
+    return done.status == 0 and copy.runs() and len(copy.started()) == 1
+
+
+def gate_stamps_what_it_proved(copy: Copy) -> bool:
+    """Sources that change while the gate proves are not stamped, nor is what
+    it refuses; the exit status tells."""
+    edit = "rt check run && echo >>crates/run/src/main.rt"
+    stamp = ("words/stamp.py", "run", "--", "sh", "-c")
+    changed = copy.python(*stamp, edit)
+    refused = copy.python(*stamp, "rt check run; exit 1")
+    no_stamp = not (copy.top / "target" / "door" / "run").exists()
+    return (
+        changed.status == 2 and b"changed" in changed.said
+        and refused.status == 1 and no_stamp
+    )
+
+
+def gate_takes_lock(copy: Copy) -> bool:
+    """The gate proves under the lock that words build under."""
+    stamp = subprocess.Popen(
+        [sys.executable, "-B", "words/stamp.py", "--", "sleep", "3"],
+        cwd=copy.top,
+    )
+    time.sleep(1)
+    held = not can_lock(copy.top)
+    return held and stamp.wait(SECONDS) == 0 and can_lock(copy.top)
+
+
+def can_lock(folder: Path) -> bool:
+    """Whether nobody holds the lock."""
+    lock = os.open(folder, os.O_RDONLY)
+    try:
+        fcntl.flock(lock, fcntl.LOCK_EX | fcntl.LOCK_NB)
+        return True
+    except BlockingIOError:
+        return False
+    finally:
+        os.close(lock)
+
+
+def no_kit(copy: Copy) -> bool:
+    """Without a prover a changed tree is said, and what was built stays: it
+    serves again once the sources are what they were."""
+    if not copy.runs():
+        return False
+    (copy.room / "kit" / "bin" / "rt").unlink()
+    path = str(copy.room / "few")
+    (copy.room / "few").mkdir()
+    for name in ("sh", "python3", "env", "dirname", "readlink"):
+        found = shutil.which(name)
+        assert found is not None
+        (copy.room / "few" / name).symlink_to(Path(found).resolve())
+    (copy.room / "few" / "python3").unlink()
+    (copy.room / "few" / "python3").symlink_to(sys.executable)
+    environment = dict(copy.environment(), PATH=path)
+    words = ("run", copy.calls)
+
+    def word() -> Done:
+        return door(
+            copy.room, *words, door_file=copy.top / "tehuamozo",
+            environment=environment,
+        )
+
+    source = copy.top / "crates" / "run" / "src" / "main.rt"
+    before = source.read_bytes()
+    copy.edit("crates/run/src/main.rt")
+    changed = word()
+    source.write_bytes(before)
+    return not_done(changed, "rt is not found") and (
+        platform.machine() != "x86_64" or word() == Done(0, RUN_TEXT, b"")
+    )
+
+
+def endless(copy: Copy) -> Path:
+    """Put a prover in place that does not end; where its child is noted."""
+    child = copy.room / "child"
+    copy.put_prover(ENDLESS.format(
+        count=copy.count, child=child, seconds=SECONDS
+    ))
+    return child
+
+
+def is_gone(process: int) -> bool:
+    """Whether a process has ended."""
+    for _ in range(50):
+        if not Path("/proc", str(process)).exists():
+            return True
+        time.sleep(0.1)
+    return False
+
+
+def begin_here(
+    copy: Copy, *words: str, stderr: int
+) -> subprocess.Popen[bytes]:
+    """A word of the copy in a session of its own, as at a terminal."""
+    return subprocess.Popen(
+        [str(copy.top / "tehuamozo"), *words], cwd=copy.room, stderr=stderr,
+        stdin=subprocess.DEVNULL, stdout=subprocess.PIPE,
+        env=copy.environment(), start_new_session=True,
+        preexec_fn=hear_interrupts,
+    )
+
+
+def interrupted_while_proving(copy: Copy) -> bool:
+    """On a terminal building says how far it is; an interrupt ends it and
+    the prover with all that it started, and lets the lock go."""
+    child, screen = endless(copy), Terminal()
+    word = begin_here(copy, "run", copy.calls, stderr=screen.line)
+    screen.hand_over()
+    said = screen.until(b"laws proved")
+    os.killpg(word.pid, signal.SIGINT)
+    word.communicate(timeout=SECONDS)
+    said = screen.until(b"", said)
+    screen.close()
+    return (
+        word.returncode == 130 and b"tehuamozo: laws proved" in said
+        and said.endswith(b"tehuamozo: interrupted\r\n")
+        and is_gone(int(child.read_text())) and can_lock(copy.top)
+    )
+
+
+def interrupted_while_waiting(copy: Copy) -> bool:
+    """On a terminal a word says that it waits for the lock; an interrupt
+    ends it."""
+    lock, screen = os.open(copy.top, os.O_RDONLY), Terminal()
+    fcntl.flock(lock, fcntl.LOCK_EX)
+    word = begin_here(copy, "run", copy.calls, stderr=screen.line)
+    screen.hand_over()
+    said = screen.until(b"waiting for another word")
+    os.killpg(word.pid, signal.SIGINT)
+    word.communicate(timeout=SECONDS)
+    said = screen.until(b"", said)
+    screen.close()
+    os.close(lock)
+    ended = said.endswith(b"tehuamozo: interrupted\r\n")
+    return word.returncode == 130 and ended and copy.started() == []
+
+
+def killed_while_proving(copy: Copy) -> bool:
+    """A word that is killed leaves the lock to its prover, until that ends:
+    no second prover is let in."""
+    child = endless(copy)
+    word = begin_here(copy, "run", copy.calls, stderr=subprocess.PIPE)
+    while not child.exists() or not child.read_text():
+        time.sleep(0.1)
+    word.kill()
+    word.communicate(timeout=SECONDS)
+    held = not can_lock(copy.top)
+    os.kill(int(child.read_text()), signal.SIGKILL)
+    for _ in range(50):
+        if can_lock(copy.top):
+            return held
+        time.sleep(0.1)
+    return False
+
+
+def gate_is_interrupted(copy: Copy) -> bool:
+    """An interrupt ends the gate in its one line and 130, with its prover."""
+    child = endless(copy)
+    word = begin_here(copy, "test", stderr=subprocess.PIPE)
+    while not child.exists() or not child.read_text():
+        time.sleep(0.1)
+    os.killpg(word.pid, signal.SIGINT)
+    said = word.communicate(timeout=SECONDS)[1]
+    return (
+        word.returncode == 130 and one_line(said, "interrupted")
+        and is_gone(int(child.read_text()))
+    )
 
 
 def other_kit(copy: Copy) -> bool:
@@ -192,8 +436,7 @@ def refused_sources(copy: Copy) -> bool:
     """Sources that are not proved are said, and nothing is run."""
     if not copy.runs():
         return False
-    with (copy.top / "crates" / "run" / "src" / "main.rt").open("a") as stream:
-        stream.write("x\n")
+    copy.edit("crates/run/src/main.rt", "x\n")
     copy.put_prover(REFUSES)
     done = copy.word("run", copy.calls)
     said = b"run is not proved" in done.said and b"NOT PROVED" in done.said
@@ -259,7 +502,9 @@ def serves_readers(copy: Copy) -> bool:
     before = files_in(copy.top)
     with for_readers(copy):
         done = read_only(copy, "run", copy.calls)
-    return done == Done(0, RUN_TEXT, b"") and files_in(copy.top) == before
+        explained = read_only(copy, "explain", copy.calls)
+    right = done == Done(0, RUN_TEXT, b"") and explained.status == 0
+    return right and files_in(copy.top) == before
 
 
 def unbuilt_for_readers(copy: Copy) -> bool:
@@ -311,13 +556,24 @@ TRIALS: List[Trial] = [
     ("a built program is not built again", in_copy(not_built_again)),
     ("a missing program", in_copy(missing_again)),
     ("a program that is not the proved one", in_copy(never_another)),
+    ("a trace that is not the proved one", in_copy(never_another_trace)),
+    ("a library that is not the proved one", in_copy(never_another_library)),
     ("a program without a stamp", in_copy(without_stamp)),
     ("other sources", in_copy(other_sources)),
+    ("other files that are no sources", in_copy(only_what_counts)),
+    ("the gate's stamp", in_copy(gate_stamps)),
+    ("the gate's stamp on other sources", in_copy(gate_stamps_what_it_proved)),
+    ("the gate's lock", in_copy(gate_takes_lock)),
+    ("a tree without a kit", in_copy(no_kit)),
     ("another kit", in_copy(other_kit)),
     ("sources that are not proved", in_copy(refused_sources)),
     ("through a symbolic link", in_copy(through_link)),
     ("readers of a built tree", in_copy(serves_readers)),
     ("readers of a tree that is not built", in_copy(unbuilt_for_readers)),
     ("the lock", in_copy(waits_for_lock)),
+    ("an interrupt while proving", in_copy(interrupted_while_proving)),
+    ("an interrupt while waiting", in_copy(interrupted_while_waiting)),
+    ("a word killed while proving", in_copy(killed_while_proving)),
+    ("an interrupt of the gate", in_copy(gate_is_interrupted)),
     ("two at once with the real prover", real_prover),
 ]

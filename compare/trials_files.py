@@ -8,8 +8,9 @@ from __future__ import annotations
 import os
 import resource
 import signal
+import stat
 import subprocess
-import time
+import threading
 from pathlib import Path
 from typing import Callable, List, Sequence
 
@@ -101,6 +102,7 @@ def full_output(room: Path) -> bool:
     many = [
         ("run", calls), ("explain", calls), ("show", calls), ("rows", text),
         ("record", record), ("help",), ("help", "calls"), ("axioms",),
+        ("bench",),
     ]
     wanted = "standard output", "No space left"
     done = [into(room, "/dev/full", *words) for words in many]
@@ -113,6 +115,35 @@ def full_output_keeps_end(room: Path) -> bool:
     put(room, "end", OLD)
     done = into(room, "/dev/full", "run", calls, "boot", "end")
     return done.status == 2 and (room / "end").read_bytes() == OLD
+
+
+def full_output_of_pictures(room: Path) -> bool:
+    """So it is where the names of several pictures cannot be said."""
+    text = put(room, "text", b"create thread 4\nstart\ntick 100000\n")
+    done = into(room, "/dev/full", "timeline", text, "-o", "one.svg")
+    return not_done(done, "standard output", "No space left")
+
+
+def closed_input(room: Path) -> bool:
+    """Standard input that is closed cannot be read: 2, and no text."""
+    words = f"'{DOOR}' run <&-; echo $?; '{DOOR}' record - <&-; echo $?"
+    done = subprocess.run(
+        ["sh", "-c", words], cwd=room, capture_output=True, check=False
+    )
+    return done.stdout == b"2\n2\n" and done.stderr.count(b"read") == 2
+
+
+def refused_start_of_rows(room: Path) -> bool:
+    """A refused START is 1 for rows and show too, and FILE stays."""
+    text, start = put(room, "text", b"tick\n"), put(room, "bad", BOOT[:27])
+    put(room, "old", OLD)
+    made = door(room, "rows", text, start, "-o", "old")
+    shown = door(room, "show", text, start)
+    kept = (room / "old").read_bytes() == OLD
+    return (
+        made[:2] == shown[:2] == (1, b"record refused 15\n") and kept
+        and one_line(made.said, "old is left as it was")
+    )
 
 
 def closed_output(room: Path) -> bool:
@@ -145,13 +176,19 @@ def unwritable(room: Path) -> bool:
     text = put(room, "text", b"tick\n")
     done = [
         door(room, *words, place)
-        for place in ("no/such", "folder", "folder/")
+        for place in ("no/such", "folder", "folder/", "", "new/")
         for words in (
             ["run", calls, "boot"], ["record", record], ["rows", text, "-o"],
         )
     ]
     done.append(door(room, "timeline", calls, "-o", "no/such.svg"))
-    return all(not_done(each, "cannot be written") for each in done)
+    dashes = [door(room, "record", record, "-"), door(room, "rows", text, "-o", "-")]
+    files = sorted(os.listdir(room))
+    return (
+        all(not_done(each, "cannot be written") for each in done)
+        and all(not_done(each, "no name for this output") for each in dashes)
+        and files == ["calls", "folder", "record", "text"]
+    )
 
 
 def limit_files() -> None:
@@ -200,14 +237,73 @@ def renamed(room: Path) -> bool:
     )
 
 
+def renamed_too(room: Path) -> bool:
+    """So is every other file that a word writes."""
+    put(room, "record", BOOT)
+    put(room, "text", b"tick\n")
+    many: Sequence[Sequence[str]] = (
+        ("record", "record", "old.svg"), ("rows", "text", "-o", "old.svg"),
+        ("timeline", "text", "-o", "old.svg"),
+    )
+    for words in many:
+        put(room, "old.svg", OLD)
+        os.link(room / "old.svg", room / "kept")
+        done = door(room, *words)
+        kept = (room / "kept").read_bytes() == OLD
+        (room / "kept").unlink()
+        if done.status != 0 or not kept or len(os.listdir(room)) != 3:
+            return False
+    return (room / "old.svg").read_bytes().startswith(b"<svg")
+
+
 def to_device(room: Path) -> bool:
     """An END that is a device or a pipe is written in its place."""
     calls = put(room, "calls", RUN)
     null = door(room, "run", calls, "boot", "/dev/null")
     full = door(room, "run", calls, "boot", "/dev/full")
+    os.mkfifo(room / "pipe")
+    read: List[bytes] = []
+    reader = threading.Thread(
+        target=lambda: read.append((room / "pipe").read_bytes())
+    )
+    reader.start()
+    piped = door(room, "run", calls, "boot", "pipe")
+    reader.join()
     return (
-        null == Done(0, RUN_TEXT, b"") and os.path.exists("/dev/null")
+        null == piped == Done(0, RUN_TEXT, b"") and len(read[0]) == 32
+        and stat.S_ISCHR(os.stat("/dev/null").st_mode)
+        and stat.S_ISFIFO(os.stat(room / "pipe").st_mode)
         and full.status == 2 and one_line(full.said, "/dev/full")
+    )
+
+
+def by_other_names(room: Path) -> bool:
+    """Rows are read by any name that the system has for them."""
+    put(room, "calls", RUN)
+    words = [
+        f"'{DOOR}' run {name}" for name in ("/dev/stdin", "/dev/fd/3", "-")
+    ]
+    done = subprocess.run(
+        ["sh", "-c", f"{words[0]} <calls; {words[1]} 3<calls; {words[2]} <calls"],
+        cwd=room, capture_output=True, check=False,
+    )
+    return done.stdout == RUN_TEXT * 3 and done.stderr == b""
+
+
+def full_start(room: Path) -> bool:
+    """A START of the longest record, 536 bytes, is taken, shown and saved
+    again, as the second program takes it."""
+    text = b"repeat 31\ncreate thread 4\nend\nrepeat 16\ncreate mutex 9\n"
+    text += b"create condition variable\nend\nrepeat 32\ncreate timer\nend\n"
+    door(room, "run", put(room, "text", text), "boot", "full")
+    calls = put(room, "calls", RUN)
+    done = door(room, "run", calls, "full", "end")
+    wanted = second_text(str(room / "calls"), str(room / "full"), "-")
+    shown = door(room, "record", "full", "again")
+    data = (room / "full").read_bytes()
+    return (
+        len(data) == 536 and done == Done(0, wanted, b"")
+        and shown.status == 0 and (room / "again").read_bytes() == data
     )
 
 
@@ -292,7 +388,7 @@ def unreadable(*words: str) -> Callable[[Path], bool]:
 def at_once(room: Path) -> bool:
     """Two runs into one END at once: it is one of the two, whole."""
     put(room, "calls", RUN)
-    put(room, "other", RUN[:8])
+    put(room, "other", RUN[:8] * 3)
     words = [str(DOOR), "run"]
     at_work = [
         subprocess.Popen(
@@ -302,9 +398,11 @@ def at_once(room: Path) -> bool:
         for calls in ("calls", "other")
     ]
     status = [word.wait(SECONDS) for word in at_work]
-    time.sleep(0)
     end = (room / "end").read_bytes()
-    return status == [0, 0] and len(end) == 32 and len(os.listdir(room)) == 3
+    for calls in ("calls", "other"):
+        second_text(str(room / calls), "boot", str(room / f"{calls}.record"))
+    one_of = [(room / f"{n}.record").read_bytes() for n in ("calls", "other")]
+    return status == [0, 0] and end in one_of and len(os.listdir(room)) == 5
 
 
 BASE_1 = BOOT[:24] + b"\x01" + BOOT[25:]
@@ -321,7 +419,12 @@ TRIALS: List[Trial] = [
     ("a refused START explained and drawn", refused_start_alone),
     ("standard output that is full", full_output),
     ("standard output that is full, and END", full_output_keeps_end),
+    ("standard output that is full, pictures", full_output_of_pictures),
     ("standard output that is closed", closed_output),
+    ("standard input that is closed", closed_input),
+    ("a refused START of rows and show", refused_start_of_rows),
+    ("a START of the longest record", full_start),
+    ("rows by other names", by_other_names),
     ("standard output that goes away", broken_pipe),
     ("outputs that cannot be written", unwritable),
     ("a full disk, run", full_disk("run", "calls", "boot", "old.svg")),
@@ -329,6 +432,7 @@ TRIALS: List[Trial] = [
     ("a full disk, rows", full_disk("rows", "text", "-o", "old.svg")),
     ("a full disk, timeline", full_disk("timeline", "calls", "-o", "old.svg")),
     ("written beside and renamed", renamed),
+    ("other files written beside and renamed", renamed_too),
     ("an END that is a device", to_device),
     ("an output that is also an input", also_input),
     ("standard output that is also an input", output_also_input),

@@ -5,6 +5,7 @@ Imported by door.py of this folder; it is no program.
 
 from __future__ import annotations
 
+import contextlib
 import os
 import re
 import select
@@ -202,6 +203,39 @@ def interrupted_at_any_time(room: Path) -> bool:
     return True
 
 
+def interrupted_often(room: Path) -> bool:
+    """Many interrupts at once end a word like one: one line, 130, nothing
+    left behind."""
+    put(room, "calls", RUN + b"\x0d\0\0\0\0\0\0\0" * 20_000)
+    (room / "temporary").mkdir()
+    for part in range(10):
+        word = begin(
+            room, "explain", "calls", stdout=subprocess.DEVNULL,
+            environment=dict(os.environ, TMPDIR=str(room / "temporary")),
+        )
+        time.sleep(0.2 + part / 40)
+        for _ in range(8):
+            with contextlib.suppress(ProcessLookupError):
+                os.killpg(word.pid, signal.SIGINT)
+            time.sleep(0.002)
+        said = word.communicate(timeout=SECONDS)[1]
+        ended = word.returncode == 130 and one_line(said, "interrupted")
+        if not ended and (word.returncode, said) != (0, b""):
+            print(part, word.returncode, said)
+            return False
+    return os.listdir(room / "temporary") == []
+
+
+def other_letters(room: Path) -> bool:
+    """A message has only letters that the user's screen knows."""
+    text = "create \u6f22 4\n".encode()
+    environment = dict(os.environ, LC_ALL="C", PYTHONUTF8="0")
+    done = door(
+        room, "run", put(room, "text", text), environment=environment
+    )
+    return done.status == 2 and one_line(done.said, "text:1: ")
+
+
 def prints_axioms(room: Path) -> bool:
     """axioms prints what each program assumes, and the page on trust names
     the same ten."""
@@ -306,6 +340,8 @@ TRIALS: List[Trial] = [
     ("a long run that is interrupted", stops_when_interrupted),
     ("words that are interrupted", interrupts),
     ("words that are interrupted at any time", interrupted_at_any_time),
+    ("words that are interrupted often", interrupted_often),
+    ("letters that a screen does not know", other_letters),
     ("a long timeline", timeline_tells),
     ("bench", bench_tells),
     ("the README's words", readme_has_words),

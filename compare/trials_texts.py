@@ -14,7 +14,7 @@ from xml.etree import ElementTree
 
 from trying import (
     BOOT, DOOR, HEADING, RUN, RUN_IN_WORDS, RUN_TEXT, SECONDS, TOP, Done,
-    Trial, door, example, not_done, put, second_text,
+    Trial, door, example, not_done, one_line, put, second_text,
 )
 
 PAGE = TOP / "docs" / "TEXTS.md"
@@ -156,12 +156,11 @@ def expected(word: str) -> Callable[[Path], bool]:
         right = len(lines) == len(places) and all(
             place in line for place, line in zip(places, lines)
         )
-        good = b"tick expect 0 0 none\n"
         met = b"create thread 4 expect 0 1 none\n"
         met += b"start expect 0 none 1\ntick 2 expect 0 0 1\n"
         done_well = door(room, word, put(room, "good", met))
         return (
-            done.status == 1 and done.text != b"" and right and good != met
+            done.status == 1 and done.text != b"" and right
             and done_well.status == 0 and done_well.said == b""
         )
 
@@ -208,8 +207,32 @@ def rows_stay_rows(room: Path) -> bool:
         door(room, "run", put(room, "part", byte * length))
         for byte in (b"\x09", b"\x0a", b"\x0d") for length in (1, 7)
     ]
-    part = Done(0, HEADING + b"1 17 255 255\n", b"")
-    return done == Done(0, HEADING + lines, b"") and parts == [part] * 6
+    return (
+        done[:2] == (0, HEADING + lines)
+        and all(each[:2] == (0, HEADING + b"1 17 255 255\n") for each in parts)
+        and all(one_line(each.said, "right form") for each in (done, *parts))
+    )
+
+
+def no_call_in_silence(room: Path) -> bool:
+    """Texts whose bytes are not a text's are said to be strange rows, by
+    every word that runs them; rows with one of right form are not."""
+    strange = (
+        "thread h\u00e4nsel = create thread 4\n".encode("latin-1"),
+        b"tick\n\x0c\n", b"tick\n\x1a", "tick\n".encode("utf-16"),
+    )
+    done = [
+        door(room, *words) for text in strange for words in (
+            ("run", put(room, "text", text)), ("explain", "text"),
+            ("timeline", "text", "-o", "one.svg"),
+        )
+    ]
+    plain = door(room, "run", put(room, "rows", b"\xff" * 8 + RUN))
+    said = all(
+        each.status == 0 and one_line(each.said, "text: ", "right form")
+        for each in done
+    )
+    return said and plain.said == b""
 
 
 def no_rows_for_rows(room: Path) -> bool:
@@ -245,7 +268,15 @@ def start_from_standard_input(room: Path) -> bool:
     done = door(room, "run", calls, "-", "-", given=BOOT)
     both = door(room, "run", "-", "-", "-", given=BOOT)
     right = done == Done(0, HEADING + b"1 2 255 255\n", b"")
-    return right and not_done(both, "standard input")
+    tick = put(room, "tick", b"mutex one = create mutex 4\n")
+    others = [
+        door(room, *words, given=BOOT) for words in (
+            ("explain", tick, "-"), ("rows", tick, "-"), ("show", tick, "-"),
+            ("timeline", tick, "-", "-o", "one.svg"),
+        )
+    ]
+    good = all(each.status == 0 and each.said == b"" for each in others)
+    return right and good and not_done(both, "standard input")
 
 
 def feed(path: Path, data: bytes) -> threading.Thread:
@@ -270,9 +301,23 @@ def from_pipes(room: Path) -> bool:
         ["bash", "-c", words], cwd=room, capture_output=True, check=False,
         timeout=SECONDS,
     )
+    many = (
+        "explain <(cat text) <(cat boot)", "show <(cat text)",
+        "rows <(cat text)", "record <(cat boot)",
+        "timeline <(cat text) <(cat boot) -o one.svg",
+    )
+    others = [
+        subprocess.run(
+            ["bash", "-c", f"'{DOOR}' {each}"], cwd=room, check=False,
+            capture_output=True, timeout=SECONDS,
+        )
+        for each in many
+    ]
+    good = all(each.returncode == 0 and not each.stderr for each in others)
     return (
         done == Done(0, RUN_TEXT, b"") and shell.stdout == RUN_TEXT + b"0\n"
-        and (room / "end").stat().st_size == 32
+        and (room / "end").stat().st_size == 32 and good
+        and others[2].stdout == RUN
     )
 
 
@@ -341,6 +386,7 @@ TRIALS: List[Trial] = [
     ("the page's example", page_example),
     ("a text handed to run and timeline", text_for_run),
     ("rows of wrong form", rows_stay_rows),
+    ("texts that are none by their bytes", no_call_in_silence),
     ("rows handed to rows", no_rows_for_rows),
     ("standard input", from_standard_input),
     ("START from standard input", start_from_standard_input),

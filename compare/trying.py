@@ -112,12 +112,13 @@ def hear_interrupts() -> None:
 def begin(
     room: Path, *words: str, stdout: int = subprocess.PIPE,
     stderr: int = subprocess.PIPE,
+    environment: Optional[Dict[str, str]] = None,
 ) -> subprocess.Popen[bytes]:
     """A word at work, in a session of its own as at a terminal."""
     return subprocess.Popen(
         [str(DOOR), *words], cwd=room, stdin=subprocess.DEVNULL,
         stdout=stdout, stderr=stderr, start_new_session=True,
-        preexec_fn=hear_interrupts,
+        preexec_fn=hear_interrupts, env=environment,
     )
 
 

@@ -104,11 +104,7 @@ def verdict_of(name: str) -> str:
 
 def lines_of(name: str) -> Iterator[str]:
     """What there is to say of one program."""
-    file = built.standing(built.program_of(name))
-    if file is None:
-        yield f"{name}: is not built from these sources"
-        return
-    file.close()
+    built.program(name).close()
     names, verdict = axioms_of(name), verdict_of(name)
     counted = COUNT.search(verdict)
     if int(counted.group(1) if counted else 0) != len(names):

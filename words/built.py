@@ -35,6 +35,7 @@ TOP = Path(__file__).resolve().parent.parent
 TARGET = TOP / "target"
 # What `rt` takes from a crate's folder.
 PARTS = ("src", "specs", "proofs", "stdin", "stdout", "args", "data")
+SECONDS_TO_END = 10.0
 PROVED = re.compile(rb"^rt: ([a-z_0-9]+ proved) \([0-9]+ s\)$", re.MULTILINE)
 
 
@@ -199,25 +200,42 @@ def last_proved(log: Path) -> str:
     return found[-1].decode() if found else ""
 
 
-def prove(product: Product, lock: int) -> int:
-    """Start the prover and wait for it; its exit status.
+def end(process: subprocess.Popen[bytes]) -> None:
+    """End a process and all that it started, by force if it takes long."""
+    with contextlib.suppress(ProcessLookupError):
+        os.killpg(process.pid, signal.SIGTERM)
+    try:
+        process.wait(SECONDS_TO_END)
+    except subprocess.TimeoutExpired:
+        os.killpg(process.pid, signal.SIGKILL)
+        process.wait()
 
-    It keeps the lock if this process is killed, and is ended with it when
-    that is interrupted.
-    """
-    with product.log().open("wb") as log:
-        prover = subprocess.Popen(
-            product.command, cwd=TOP, stdin=subprocess.DEVNULL, stdout=log,
-            stderr=subprocess.STDOUT, pass_fds=(lock,),
-            start_new_session=True,
+
+def under_lock(
+    command: Sequence[str], lock: int, log: Optional[IO[bytes]] = None
+) -> subprocess.Popen[bytes]:
+    """A command at work at the top of the repository. It keeps the lock if
+    this process is killed, and has a session of its own, so that it can be
+    ended with all that it starts."""
+    try:
+        return subprocess.Popen(
+            command, cwd=TOP, stdin=subprocess.DEVNULL, stdout=log,
+            stderr=None if log is None else subprocess.STDOUT,
+            pass_fds=(lock,), start_new_session=True,
         )
+    except OSError as error:
+        raise Trouble(f"{command[0]} cannot be started: {error}") from error
+
+
+def prove(product: Product, lock: int) -> int:
+    """Start the prover and wait for it; its exit status."""
+    with product.log().open("wb") as log:
+        prover = under_lock(product.command, lock, log)
     try:
         with telling(lambda: last_proved(product.log())):
             return prover.wait()
     except BaseException:
-        with contextlib.suppress(ProcessLookupError):
-            os.killpg(prover.pid, signal.SIGTERM)
-        prover.wait()
+        end(prover)
         raise
 
 
@@ -235,34 +253,52 @@ def put_stamp(product: Product, stamp: str) -> None:
     beside.replace(product.stamp())
 
 
+def stamp_built(product: Product, before: str) -> IO[bytes]:
+    """Stamp what was built from the sources there were before, if they are
+    still the same; the file, open."""
+    if sources(product.crate) != before:
+        raise Trouble(
+            f"the sources of {product.crate} changed while they were proved"
+        )
+    product.stamp().parent.mkdir(parents=True, exist_ok=True)
+    file = product.file.open("rb")
+    put_stamp(product, stamped(before, kit() or "", file.read()))
+    return file
+
+
 def build(product: Product, lock: int) -> IO[bytes]:
     """Prove and build under the lock, and stamp what is built."""
+    if shutil.which(product.command[0]) is None:
+        raise Trouble(
+            f"{product.crate} is not built from these sources, and cannot be "
+            "built here: the Rattle kit's rt is not found"
+        )
     before = sources(product.crate)
     product.stamp().parent.mkdir(parents=True, exist_ok=True)
     forget(product)
     if prove(product, lock) != 0:
         words = product.log().read_text("utf-8", "replace").rstrip()
         raise Trouble(f"{product.crate} is not proved:\n{words}")
-    if sources(product.crate) != before:
-        raise Trouble(
-            f"the sources of {product.crate} changed while they were proved"
-        )
-    file = product.file.open("rb")
-    put_stamp(product, stamped(before, kit() or "", file.read()))
-    return file
+    return stamp_built(product, before)
 
 
-def stamp_as_built(name: str) -> None:
-    """Stamp a program that the caller has just had proved and built, under
-    the lock."""
-    product = program_of(name)
-    try:
-        data = product.file.read_bytes()
-        product.stamp().parent.mkdir(parents=True, exist_ok=True)
-        stamp = stamped(sources(name), kit() or "", data)
-        put_stamp(product, stamp)
-    except OSError as error:
-        raise Trouble(f"{name} is not built: {error}") from error
+def build_by(command: Sequence[str], names: Sequence[str]) -> int:
+    """Have a command prove and build programs, under the lock, and stamp
+    them where it ends well; its exit status."""
+    with locked() as lock:
+        before = {name: sources(name) for name in names}
+        process = under_lock(command, lock)
+        try:
+            status = process.wait()
+        except BaseException:
+            end(process)
+            raise
+        try:
+            for name in names if status == 0 else ():
+                stamp_built(program_of(name), before[name]).close()
+        except OSError as error:
+            raise Trouble(f"a program is not built: {error}") from error
+    return status
 
 
 def made(product: Product) -> IO[bytes]:

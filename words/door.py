@@ -34,6 +34,7 @@ from streams import STANDARD_INPUT, Room, Trouble, complain, printable, put
 DONE, NOT_DONE = 0, 2
 LAST_TICK = 4_294_967_295
 HELP = ("help", "--help", "-h")
+ENDS = (signal.SIGINT, signal.SIGTERM, signal.SIGHUP)
 
 
 class WrongUse(Exception):
@@ -55,26 +56,30 @@ class Stopped(Exception):
 
 
 def stop(number: int, frame: object) -> NoReturn:
-    """End the word, with what it has begun cleared away."""
+    """End the word, with what it has begun cleared away; a second signal
+    does not disturb that."""
+    for each in ENDS:
+        signal.signal(each, signal.SIG_IGN)
     raise Stopped(number)
 
 
 def hear_signals() -> None:
     """Let signals end the word in order, where they are not ignored. An
     interrupt is held back by ./tehuamozo until here."""
-    for number in (signal.SIGINT, signal.SIGTERM, signal.SIGHUP):
+    for number in ENDS:
         if signal.getsignal(number) is not signal.SIG_IGN:
             signal.signal(number, stop)
     signal.pthread_sigmask(signal.SIG_UNBLOCK, {signal.SIGINT})
 
 
-def keep_outputs_closed() -> None:
-    """Have no file opened in the place of an output that is closed."""
-    for file in (0, 1, 2):
+def keep_closed() -> None:
+    """Have no file opened in the place of an input or output that is
+    closed: what is put there can neither be read nor written."""
+    for file, way in ((0, os.O_WRONLY), (1, os.O_RDONLY), (2, os.O_RDONLY)):
         try:
             os.fstat(file)
         except OSError:
-            os.open(os.devnull, os.O_RDONLY)
+            os.open(os.devnull, way)
 
 
 def counted(word: str, words: Sequence[str], *wanted: int) -> None:
@@ -162,10 +167,11 @@ def rows_word(words: Sequence[str]) -> int:
 
 
 def show_word(words: Sequence[str]) -> int:
-    """show CALLS"""
+    """show CALLS [START]"""
     files, _ = split_option("show", words)
-    counted("show", files, 1)
-    return showing.show(files[0])
+    counted("show", files, 1, 2)
+    source, start = (*files, BOOT)[:2]
+    return showing.show(source, start)
 
 
 def axioms_word(words: Sequence[str]) -> int:
@@ -254,7 +260,7 @@ def refuse_use(wrong: WrongUse) -> int:
 
 def main() -> int:
     """One word, whatever becomes of it; the exit status."""
-    keep_outputs_closed()
+    keep_closed()
     try:
         hear_signals()
         return do(sys.argv[1:])
@@ -267,6 +273,9 @@ def main() -> int:
         complain("interrupted" if stopped.number == signal.SIGINT
                  else f"ended by {stopped}")
         return 128 + stopped.number
+    except Exception as fault:  # whatever it is, the work was not done
+        complain(f"a fault of the door: {type(fault).__name__}: {fault}")
+        return NOT_DONE
 
 
 if __name__ == "__main__":

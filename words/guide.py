@@ -37,7 +37,9 @@ USES: Dict[str, Use] = {
     "rows": Use("TEXT [START] [-o FILE]", (
         "make call rows of a text; the names in it follow START's ids",
     )),
-    "show": Use("CALLS", ("write calls as a text, one on a line",)),
+    "show": Use("CALLS [START]", (
+        "write calls as a text, one on a line, with ids for names",
+    )),
     "axioms": Use("", (
         "print what the proved programs assume of the system",
     )),

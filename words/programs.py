@@ -12,6 +12,7 @@ from __future__ import annotations
 import contextlib
 import os
 import platform
+import re
 import subprocess
 import tempfile
 import threading
@@ -25,27 +26,21 @@ LOADER = "ld-linux-x86-64.so.2"
 HEADING = b"line answer given running\n"
 REFUSED = b"record refused "
 ROW = 8
-# A program that reads standard input by a file's name.
+# Standard input by a name: the program reads its calls from a file.
 FED = "/dev/stdin"
 SECONDS_TO_CLOSE = 5.0
+# A line whose answer is not 17, wrong form.
+OF_RIGHT_FORM = re.compile(rb"^\d+ (?!17 )", re.MULTILINE)
 
 
-class Feed(NamedTuple):
-    """Calls that are handed on as they come: what was read already, and
-    the input that has the rest, if there is more."""
+class Handed(NamedTuple):
+    """Calls that are handed on as they come: what was read already, the
+    input that has the rest, if there is more, and their size, if known."""
 
     head: bytes
     name: str
     file: Optional[int]
-
-
-class Handed(NamedTuple):
-    """The calls as a program gets them: a file of rows with its size, or
-    standard input with what is fed there."""
-
-    path: str
-    size: int
-    feed: Optional[Feed]
+    size: Optional[int]
 
 
 def command_of(program: str) -> List[str]:
@@ -92,10 +87,10 @@ def started(
 class Feeder(threading.Thread):
     """Hands bytes on to a program; how many, and what was in the way."""
 
-    def __init__(self, feed: Feed, sink: IO[bytes]) -> None:
+    def __init__(self, handed: Handed, sink: IO[bytes]) -> None:
         """Not begun yet."""
         super().__init__(daemon=True)
-        self.feed = feed
+        self.handed = handed
         self.sink = sink
         self.count = 0
         self.trouble: Optional[Trouble] = None
@@ -110,9 +105,9 @@ class Feeder(threading.Thread):
         """Hand on what was read, then the rest. A program that has ended
         takes no more; what it printed tells whether it should have."""
         try:
-            self.hand_on(self.feed.head)
-            while self.feed.file is not None:
-                data = read_some(self.feed.name, self.feed.file)
+            self.hand_on(self.handed.head)
+            while self.handed.file is not None:
+                data = read_some(self.handed.name, self.handed.file)
                 if not data:
                     break
                 self.hand_on(data)
@@ -127,10 +122,11 @@ class Feeder(threading.Thread):
 
 class Outcome(NamedTuple):
     """What became of a run: the number by which its START was refused, or
-    none; how many rows were answered; what was said on standard error."""
+    none; whether it had rows, and all of wrong form; what was said on
+    standard error."""
 
     refused: Optional[int]
-    rows: int
+    is_all_wrong: bool
     said: bytes
 
 
@@ -142,14 +138,17 @@ class Text:
         self.sink = sink
         self.first = b""
         self.lines = 0
-        self.last = b""
+        self.rest = b""
+        self.is_all_wrong = True
 
     def take(self, data: bytes) -> None:
         """Hand a block on."""
         if len(self.first) < BLOCK:
             self.first += data
         self.lines += data.count(b"\n")
-        self.last = data[-1:]
+        whole, end, self.rest = (self.rest + data).rpartition(b"\n")
+        if self.is_all_wrong and OF_RIGHT_FORM.search(whole + end):
+            self.is_all_wrong = False
         self.sink(data)
 
     def refused(self) -> Optional[int]:
@@ -183,13 +182,11 @@ def run_calls(
 ) -> Outcome:
     """Run calls from START to END; the text goes to the sink as it comes,
     and how many rows are answered so far is told besides."""
-    words = [calls.path, start, end]
     with tempfile.TemporaryFile() as said:
-        with started(program, words, said, calls.feed is not None) as process:
-            feeder = None
-            if calls.feed is not None and process.stdin is not None:
-                feeder = Feeder(calls.feed, process.stdin)
-                feeder.start()
+        with started(program, [FED, start, end], said, True) as process:
+            assert process.stdin is not None
+            feeder = Feeder(calls, process.stdin)
+            feeder.start()
 
             def take(data: bytes) -> None:
                 sink(data)
@@ -197,30 +194,25 @@ def run_calls(
 
             text = Text(take)
             read_text(process, text)
-        return outcome(calls, text, feeder, process.returncode, said_in(said))
-
-
-def outcome(
-    calls: Handed, text: Text, feeder: Optional[Feeder], status: int,
-    said: bytes,
-) -> Outcome:
-    """What became of a run that has ended."""
-    refused = text.refused()
-    if refused is not None:
-        return Outcome(refused, 0, said)
-    size = calls.size
-    if feeder is not None:
-        # A program that ended early leaves it waiting for more.
-        feeder.join(SECONDS_TO_CLOSE)
-        size = feeder.count
+        if text.refused() is None:
+            # A program that ended early leaves it waiting for more.
+            feeder.join(SECONDS_TO_CLOSE)
         if feeder.trouble is not None:
             raise feeder.trouble
+        return outcome(text, feeder.count, process.returncode, said_in(said))
+
+
+def outcome(text: Text, size: int, status: int, said: bytes) -> Outcome:
+    """What became of a run that was handed calls of this size."""
+    refused = text.refused()
+    if refused is not None:
+        return Outcome(refused, False, said)
     rows = max(text.lines - 1, 0)
-    whole = text.first.startswith(HEADING) and text.last == b"\n"
-    if not whole or status != 0 or rows != (size + ROW - 1) // ROW:
+    is_whole = text.first.startswith(HEADING) and text.rest == b""
+    if not is_whole or status != 0 or rows != (size + ROW - 1) // ROW:
         words = said.decode("utf-8", "replace").strip() or "no reason is said"
         raise Trouble(f"the run ended after row {rows}: {words}")
-    return Outcome(None, rows, said)
+    return Outcome(None, text.is_all_wrong and rows > 0, said)
 
 
 def place_read(process: int, path: str) -> int:

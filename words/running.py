@@ -19,7 +19,7 @@ import timeline
 from borrowed import HEADER, Answer, header_of
 from calls import line_of, split_rows
 from sources import (
-    Start, all_calls, calls_of, fed, handed_of, open_calls, open_start,
+    Start, all_calls, all_there, calls_of, handed_of, open_calls, open_start,
     running_at,
 )
 from streams import Output, Room, Trouble, complain, put, shown_name
@@ -40,15 +40,12 @@ def answers_in(text: bytes) -> List[Answer]:
 
 def share(answered: int, handed: programs.Handed) -> str:
     """How many of the calls are answered, where that can be told."""
-    size = handed.size
-    if handed.feed is not None:
-        if handed.feed.file is not None:
-            return f"{answered} calls" if answered > 0 else ""
-        size = len(handed.feed.head)
-    rows = (size + programs.ROW - 1) // programs.ROW
-    if answered < 0 or rows == 0:
+    if answered < 0:
         return ""
-    return f"{answered * 100 // rows}% of the calls"
+    if not handed.size:
+        return f"{answered} calls"
+    rows = (handed.size + programs.ROW - 1) // programs.ROW
+    return f"{min(answered * 100 // rows, 100)}% of the calls"
 
 
 def run_told(
@@ -79,6 +76,15 @@ def say_unmet(
     return REFUSED if lines else DONE
 
 
+def say_all_wrong(name: str, done: programs.Outcome) -> None:
+    """Say where calls may not be what the user takes them for."""
+    if done.is_all_wrong:
+        complain(
+            f"{shown_name(name)}: no row of it is of right form: is it a file "
+            "of call rows?"
+        )
+
+
 def say_refused(start: Start, outputs: Sequence[str]) -> int:
     """Say what a refused START means; the exit status."""
     rest = "no call was run"
@@ -103,6 +109,17 @@ def finish_record(room: Room, end: Output) -> None:
     room.finish()
 
 
+def say_what_was_said(
+    done: programs.Outcome, end: Optional[Output]
+) -> None:
+    """Hand on what a program said, with END by its own name."""
+    said = done.said
+    if end is not None:
+        said = said.replace(os.fsencode(end.path()), os.fsencode(end.name))
+    with contextlib.suppress(OSError):
+        os.write(2, said)
+
+
 def run_into(
     room: Room, handed: programs.Handed, start: Start, end: Optional[Output],
     calls: Optional[texts.Calls],
@@ -121,8 +138,8 @@ def run_into(
     done = run_told(handed, start.path, path, sink, not os.isatty(1))
     if done.refused is not None:
         return say_refused(start, [] if end is None else [end.name])
-    with contextlib.suppress(OSError):
-        os.write(2, done.said)
+    say_what_was_said(done, end)
+    say_all_wrong(handed.name, done)
     if end is not None:
         finish_record(room, end)
     return say_unmet(calls, answers_in(b"".join(parts)))
@@ -144,11 +161,12 @@ def answers_of(
     """The proved program's answers, or none where START is refused, which
     is printed as the program says it."""
     parts: List[bytes] = []
-    handed = fed(calls.rows, calls.name, None)
+    handed = all_there(calls.rows, calls.name)
     done = run_told(handed, start.path, NOWHERE, parts.append)
     if done.refused is not None:
         put(b"".join(parts))
         return None
+    say_all_wrong(calls.name, done)
     return answers_in(b"".join(parts))
 
 
@@ -163,12 +181,18 @@ def put_lines(lines: Iterable[str]) -> None:
     put("".join(waiting).encode())
 
 
+def is_taken(start: Start) -> bool:
+    """Whether the proved program takes START; a refusal is printed."""
+    nothing = texts.calls_of_rows(start.name, b"")
+    return answers_of(nothing, start) is not None
+
+
 def explain_calls(name: str, begin: str) -> int:
     """Calls and answers in words."""
     with Room() as room:
         source = open_calls(room, name)
         start = open_start(room, begin)
-        calls = all_calls(room, source, start)
+        calls = all_calls(source, start)
         answers = answers_of(calls, start)
         if answers is None:
             return say_refused(start, [])
@@ -238,7 +262,7 @@ def draw(
         source = open_calls(room, name)
         start = open_start(room, begin)
         room.output(picture)
-        calls = all_calls(room, source, start)
+        calls = all_calls(source, start)
         answers = answers_of(calls, start)
         if answers is None:
             return say_refused(start, [picture])

@@ -11,15 +11,16 @@ from typing import List, Optional
 
 import tables
 from calls import text_of
-from running import NOWHERE, finish_record, run_told
+from running import (
+    NOWHERE, finish_record, is_taken, run_told, say_refused,
+)
 from sources import (
-    BOOT, Start, all_calls, counts_at, fed, open_calls, open_start,
+    BOOT, all_calls, all_there, counts_at, open_calls, open_start,
 )
 from streams import Room, Trouble, complain, put, read_to, shown_name
 from texts import calls_of_text
 
 DONE, REFUSED = 0, 1
-AT_BOOT = Start(BOOT, BOOT, b"")
 TERMINAL = "rows are not for a terminal: name a file with -o FILE"
 # What is longer than this is no record, and is shown no further.
 MOST_SHOWN = 1_048_576
@@ -30,10 +31,13 @@ def rows(name: str, begin: str, target: Optional[str]) -> int:
     that is meant for a record follow those that exist there."""
     with Room() as room:
         text = read_to(name, room.input(name))
-        counts = counts_at(open_start(room, begin))
-        calls = calls_of_text(shown_name(name), text, counts)
-        if target is not None:
-            room.output(target).write(calls.rows)
+        start = open_start(room, begin)
+        output = None if target is None else room.output(target)
+        if start.path != BOOT and not is_taken(start):
+            return say_refused(start, [] if target is None else [target])
+        calls = calls_of_text(shown_name(name), text, counts_at(start))
+        if output is not None:
+            output.write(calls.rows)
             room.finish()
         elif os.isatty(1):
             raise Trouble(TERMINAL)
@@ -42,11 +46,14 @@ def rows(name: str, begin: str, target: Optional[str]) -> int:
     return DONE
 
 
-def show(name: str) -> int:
-    """Calls as a text, one on a line."""
+def show(name: str, begin: str) -> int:
+    """Calls as a text, one on a line, with ids for names."""
     with Room() as room:
-        calls = all_calls(room, open_calls(room, name), AT_BOOT)
-        put(text_of(calls.rows).encode("ascii"))
+        source = open_calls(room, name)
+        start = open_start(room, begin)
+        if start.path != BOOT and not is_taken(start):
+            return say_refused(start, [])
+        put(text_of(all_calls(source, start).rows).encode("ascii"))
     return DONE
 
 
@@ -60,7 +67,7 @@ def record(name: str, target: Optional[str]) -> int:
         start = room.put_aside("record", data)
         path = NOWHERE if output is None else output.path()
         text: List[bytes] = []
-        done = run_told(fed(b"", name, None), start, path, text.append)
+        done = run_told(all_there(b"", name), start, path, text.append)
         answer = done.refused or DONE
         put(tables.record_text(data, answer).encode("ascii"))
         if not tables.agrees(data, answer):

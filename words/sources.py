@@ -2,8 +2,8 @@
 them.
 
 Calls are a file of rows or a text, told apart by their bytes. Rows are handed
-on as they are, and need not fit into memory. Imported by the words; it is no
-program.
+on as they are read, once, and need not fit into memory. Imported by the
+words; it is no program.
 """
 
 from __future__ import annotations
@@ -13,10 +13,8 @@ from typing import List, NamedTuple, Optional, Sequence
 
 import texts
 from borrowed import answer_of, broken_rule, header_of, record_of
-from programs import FED, Feed, Handed
-from streams import (
-    STANDARD_INPUT, Room, identity_of, read_some, read_to, shown_name,
-)
+from programs import Handed
+from streams import Room, identity_of, read_some, read_to, shown_name
 
 BOOT = "boot"
 DONE = 0
@@ -44,9 +42,9 @@ class Start(NamedTuple):
     record: bytes
 
 
-def fed(head: bytes, name: str, file: Optional[int]) -> Handed:
-    """Calls that are fed to a program."""
-    return Handed(FED, 0, Feed(head, name, file))
+def all_there(rows: bytes, name: str) -> Handed:
+    """Rows that are all there."""
+    return Handed(rows, name, None, len(rows))
 
 
 def open_calls(room: Room, name: str) -> Source:
@@ -60,12 +58,12 @@ def open_calls(room: Room, name: str) -> Source:
         is_ended = not part
         is_rows = texts.no_text_byte(part)
     head = b"".join(parts)
-    if is_ended and texts.is_text(head):
-        return Source(name, head, fed(b"", name, None))
+    if is_ended:
+        text = head if texts.is_text(head) else None
+        return Source(name, text, all_there(head, name))
     status = os.fstat(file)
-    if name != STANDARD_INPUT and identity_of(status) is not None:
-        return Source(name, None, Handed(name, status.st_size, None))
-    return Source(name, None, fed(head, name, None if is_ended else file))
+    size = status.st_size if identity_of(status) is not None else None
+    return Source(name, None, Handed(head, name, file, size))
 
 
 def open_start(room: Room, name: str) -> Start:
@@ -111,22 +109,20 @@ def handed_of(source: Source, calls: Optional[texts.Calls]) -> Handed:
     """The calls as a program gets them."""
     if calls is None:
         return source.handed
-    return fed(calls.rows, source.name, None)
+    return all_there(calls.rows, source.name)
 
 
-def rows_of(room: Room, source: Source) -> bytes:
+def rows_of(source: Source) -> bytes:
     """All rows of calls that are no text."""
-    feed = source.handed.feed
-    if feed is None:
-        return read_to(source.name, room.input(source.name))
-    if feed.file is None:
-        return feed.head
-    return feed.head + read_to(source.name, feed.file)
+    handed = source.handed
+    if handed.file is None:
+        return handed.head
+    return handed.head + read_to(source.name, handed.file)
 
 
-def all_calls(room: Room, source: Source, start: Start) -> texts.Calls:
+def all_calls(source: Source, start: Start) -> texts.Calls:
     """The calls of a text or of rows, all of them."""
     calls = calls_of(source, start)
     if calls is not None:
         return calls
-    return texts.calls_of_rows(shown_name(source.name), rows_of(room, source))
+    return texts.calls_of_rows(shown_name(source.name), rows_of(source))

@@ -13,6 +13,7 @@ from __future__ import annotations
 import contextlib
 import os
 import stat
+import sys
 import tempfile
 from typing import Dict, List, NamedTuple, Optional
 
@@ -21,8 +22,8 @@ LONGEST_WORD, LONGEST_NAME = 40, 200
 BLOCK = 65_536
 # What a new file may be used for, before the user's mask.
 NEW_FILE = 0o666
-# Of a name, what goes into that of the file beside it, which has a limit.
-NAME_BESIDE = 100
+# How the name of a file beside its place begins.
+BESIDE = ".tehuamozo-"
 
 
 class Trouble(Exception):
@@ -54,8 +55,10 @@ def file_trouble(name: str, doing: str, error: Exception) -> Trouble:
 def complain(line: str) -> None:
     """Show one line on standard error."""
     # There is no other place left to say it; the exit status remains.
+    encoding = sys.getfilesystemencoding()
+    data = f"tehuamozo: {line}\n".encode(encoding, "backslashreplace")
     with contextlib.suppress(OSError):
-        os.write(2, os.fsencode(f"tehuamozo: {line}\n"))
+        os.write(2, data)
 
 
 def put(data: bytes) -> None:
@@ -204,6 +207,11 @@ class Output:
 
     def begin(self, room: Room) -> None:
         """Try whether the place can be written, and open the file beside."""
+        if self.name == STANDARD_INPUT:
+            raise Trouble("-: is no name for this output; ./- is a file's")
+        if not self.name or self.name.endswith("/"):
+            name = shown_name(self.name)
+            raise Trouble(f"{name}: cannot be written: Is a directory")
         try:
             before = old_file(self.name)
             if before is not None:
@@ -215,7 +223,7 @@ class Output:
     def refuse(self, before: os.stat_result, room: Room) -> None:
         """Refuse a place that is a folder, an input or standard output."""
         name = shown_name(self.name)
-        if stat.S_ISDIR(before.st_mode) or self.name.endswith("/"):
+        if stat.S_ISDIR(before.st_mode):
             raise Trouble(f"{name}: cannot be written: Is a directory")
         identity = identity_of(before)
         if identity is None:
@@ -236,14 +244,12 @@ class Output:
         if self.renamed:
             # A link stays one: what it points to is replaced.
             self.place = os.path.realpath(self.name)
-        folder, last = os.path.split(self.place)
-        if not self.renamed:
-            folder = room.folder
-        prefix = f".{last[:NAME_BESIDE]}."
-        file, self.beside = tempfile.mkstemp(prefix=prefix, dir=folder)
-        mode = NEW_FILE & ~mask() if before is None else before.st_mode
-        os.fchmod(file, stat.S_IMODE(mode))
-        os.close(file)
+        folder = os.path.dirname(self.place) if self.renamed else room.folder
+        file, self.beside = tempfile.mkstemp(prefix=BESIDE, dir=folder)
+        try:
+            keep_rights(file, before)
+        finally:
+            os.close(file)
 
     def write(self, data: bytes) -> None:
         """Write all of the file beside."""
@@ -296,6 +302,16 @@ def old_file(place: str) -> Optional[os.stat_result]:
         return os.stat(place)
     except FileNotFoundError:
         return None
+
+
+def keep_rights(file: int, before: Optional[os.stat_result]) -> None:
+    """Give a new file the mode of the old one, and its owner if allowed."""
+    if before is None:
+        os.fchmod(file, NEW_FILE & ~mask())
+        return
+    with contextlib.suppress(PermissionError):
+        os.fchown(file, before.st_uid, before.st_gid)
+    os.fchmod(file, stat.S_IMODE(before.st_mode))
 
 
 def mask() -> int:
