@@ -25,7 +25,7 @@ def too_short(data: bytes) -> Breaches:
     """A buffer under 24 bytes."""
     if len(data) < HEADER.size:
         yield Breach(IN_HEADER, (
-            f"it has {HEADER.size} bytes, and the record has {len(data)}"
+            f"a header has {HEADER.size} bytes, and the record has {len(data)}"
         ))
 
 

@@ -188,7 +188,7 @@ class Breaches(unittest.TestCase):
             self.assertEqual(
                 first_breach(STARTED[:length]),
                 Broken("form-short", Breach("header", (
-                    f"it has 24 bytes, and the record has {length}"
+                    f"a header has 24 bytes, and the record has {length}"
                 ))),
             )
 

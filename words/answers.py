@@ -32,7 +32,7 @@ ANSWERS: Mapping[int, str] = {
     17: "a row of wrong form",
 }
 GIVEN_TO: Mapping[int, str] = {
-    0: "any call",
+    0: "any call, load, save",
     1: "any call, load, save",
     2: "acquire, release, wait, signal, broadcast, start timer, stop timer, "
        "tick",
@@ -51,7 +51,7 @@ GIVEN_TO: Mapping[int, str] = {
     15: "load",
     16: "save",
     17: "a row whose code is not 1 to 13, with an unused field not 0, or with "
-        "a kind above 1",
+        "a kind above 1; a last row that is cut short",
 }
 
 

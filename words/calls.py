@@ -99,16 +99,23 @@ FORMS: Tuple[Form, ...] = (
     form(3, "create mutex CEILING", "makes a mutex, which is free"),
     form(4, "create condition variable", "makes a condition variable"),
     form(5, "create timer", "makes a timer, which is stopped"),
-    form(6, "acquire MUTEX", "the caller takes the mutex or waits for it"),
-    form(7, "release MUTEX", "the caller gives the mutex up, once"),
+    form(6, "acquire MUTEX",
+         "the caller owns it, with one more in its count, or waits for it"),
+    form(7, "release MUTEX",
+         "its count falls by one, or its highest, earliest waiter owns it, or "
+         "it is free"),
     form(8, "wait CONDITION MUTEX",
-         "the caller gives the mutex up and waits for a signal"),
-    form(9, "signal CONDITION", "the first that waits there leaves"),
-    form(10, "broadcast CONDITION", "all that wait there leave"),
+         "the mutex is released, then the caller waits there"),
+    form(9, "signal CONDITION",
+         "the highest, earliest waiter leaves, and owns the tied mutex or "
+         "waits for it"),
+    form(10, "broadcast CONDITION", "signals until none waits"),
     form(11, "start timer TIMER CONDITION KIND MICROSECONDS",
-         "the timer signals after that time, once or again and again"),
-    form(12, "stop timer TIMER", "the timer signals no more"),
-    form(13, "tick", "1000 microseconds pass; timers that are due signal"),
+         f"it is due in MICROSECONDS / {MICROSECONDS_PER_TICK} ticks, rounded "
+         "down; a periodic one again and again"),
+    form(12, "stop timer TIMER", "the timer is stopped"),
+    form(13, "tick",
+         "the count advances; each timer now due, in order of id, signals"),
 )
 TICK = FORMS[12]
 BY_WORDS: Mapping[Tuple[str, ...], Form] = {

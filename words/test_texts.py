@@ -17,7 +17,7 @@ import tempfile
 import time
 import unittest
 from pathlib import Path
-from typing import List, Sequence, Set, Tuple
+from typing import Dict, List, Sequence, Set, Tuple
 
 import answers
 import calls
@@ -27,8 +27,8 @@ from explain import explained
 from streams import Trouble
 from testing import run_tests
 from texts import (
-    OTHER_LINES, Calls, Expectation, calls_of_rows, calls_of_text, is_text,
-    no_text_byte, unmet,
+    OTHER_LINES, Calls, Expectation, calls_of_rows, calls_of_text, guide,
+    is_text, no_text_byte, unmet,
 )
 
 # The second program's, which borrowed.py made findable.
@@ -213,8 +213,8 @@ TROUBLED: Tuple[Tuple[str, int, str], ...] = (
     ("tick expect 0 expect 0", 1, "write: expect ANSWER [GIVEN [RUNNING]]"),
     ("tick expect 18", 1, "ANSWER is 0 to 17, not 18"),
     ("tick expect none", 1, "ANSWER is a number from 0 to 17"),
-    ("tick expect 0 65536", 1, "GIVEN is 0 to 65535, not 65536"),
-    ("tick expect 0 -1", 1, "GIVEN is a number from 0 to 65535, a name"),
+    ("tick expect 0 256", 1, "GIVEN is 0 to 255, not 256"),
+    ("tick expect 0 -1", 1, "GIVEN is a number from 0 to 255, a name"),
     ("tick expect 0 0 256", 1, "RUNNING is 0 to 255, not 256"),
     ("tick expect 0 0 other", 1, "nothing is named other so far"),
     ("tick expect 0 other", 1, "nothing is named other so far"),
@@ -352,15 +352,20 @@ class Rows(Case):
             self.assertEqual(read(text).rows, b"\x0d" * length)
 
     def test_out_of_the_documents_bounds(self) -> None:
-        """What a row has room for is taken; the kernel answers 6 or 4."""
+        """What a row has room for is taken; the kernel answers 6, 2 or 4."""
         text = (
             "create thread 0\ncreate thread 16\ncreate thread 255\n"
             "create mutex 255\ncreate timer\ncreate condition variable\n"
+            "signal 255\nstart timer 0 0 periodic 999\n"
             "start\nsignal 255\nstart timer 0 0 periodic 999\n"
             "start timer 0 0 periodic 4294967295\nstop timer 255\n"
+            "start timer 1 0 one-shot 999\nstart timer 0 1 one-shot 999\n"
+            "create thread 16\n"
         )
         answered = [answer.answer for answer in second(read(text).rows)]
-        self.assertEqual(answered, [6, 6, 6, 6, 0, 0, 0, 4, 6, 6, 4])
+        self.assertEqual(
+            answered, [6, 6, 6, 6, 0, 0, 2, 2, 0, 4, 6, 6, 4, 4, 4, 6]
+        )
 
     def test_lines_in_trouble(self) -> None:
         """The file and the line are named, and what is wrong."""
@@ -395,6 +400,8 @@ class ToldApart(Case):
         """Blanks alone are rows, the last of which may be cut short."""
         for data in (b"\n", b"\r", b"\t", b" ", b"\r\n\t ", b"\r" * 8):
             self.assertFalse(is_text(data), data)
+            self.assertEqual(second(data), [Answer(17, NONE, NONE)])
+            self.assertTrue(is_text(data + b"#"), data)
 
     def test_every_byte(self) -> None:
         """Control bytes but three stand in no text."""
@@ -617,7 +624,8 @@ class Expected(Case):
             ("0", (5, 0, None, None, "answer 0")),
             ("17", (5, 17, None, None, "answer 17")),
             ("0 2", (5, 0, 2, None, "answer 0, given 2")),
-            ("0 65535", (5, 0, 65_535, None, "answer 0, given 65535")),
+            ("0 254", (5, 0, 254, None, "answer 0, given 254")),
+            ("0 255", (5, 0, 255, None, "answer 0, given none")),
             ("9 none", (5, 9, 255, None, "answer 9, given none")),
             ("0 none 3",
              (5, 0, 255, 3, "answer 0, given none, running 3")),
@@ -945,23 +953,61 @@ class Explained(Case):
         self.assertLess(taken[1], 12 * taken[0])
 
 
+# How each call is written, and words of what document 01 says it does.
+CALLS_BY_HAND: Tuple[Tuple[str, Tuple[str, ...]], ...] = (
+    ("start", ("the first of the highest ready queue runs",)),
+    ("create thread BASE", ("ready",)),
+    ("create mutex CEILING", ("free",)),
+    ("create condition variable", ("condition variable",)),
+    ("create timer", ("stopped",)),
+    ("acquire MUTEX", ("the caller owns it", "one more in its count",
+                       "waits for it")),
+    ("release MUTEX", ("count falls by one", "highest, earliest waiter owns",
+                       "is free")),
+    ("wait CONDITION MUTEX", ("is released, then the caller waits",)),
+    ("signal CONDITION", ("the highest, earliest waiter leaves",
+                          "owns the tied mutex or waits for it")),
+    ("broadcast CONDITION", ("signals until none waits",)),
+    ("start timer TIMER CONDITION one-shot|periodic MICROSECONDS",
+     ("due", "MICROSECONDS / 1000 ticks, rounded down", "periodic one again")),
+    ("stop timer TIMER", ("stopped",)),
+    ("tick", ("the count advances", "each timer now due, in order of id")),
+)
+# The calls that document 01's table and its calls let each answer be given to.
+EVERY_CALL = {"any call", "load", "save"}
+WITH_AN_ID = {
+    "acquire", "release", "wait", "signal", "broadcast", "start timer",
+    "stop timer",
+}
+GIVEN_BY_HAND: Dict[int, Set[str]] = {
+    0: EVERY_CALL, 1: EVERY_CALL, 2: WITH_AN_ID | {"tick"}, 3: {"start"},
+    4: WITH_AN_ID, 5: {"acquire", "wait"},
+    6: {"create thread", "create mutex", "start timer"},
+    7: {"create thread", "create mutex", "create condition variable",
+        "create timer"},
+    8: {"acquire"}, 9: {"release", "wait"}, 10: {"acquire"}, 11: {"wait"},
+    12: {"wait"}, 13: {"start timer"}, 14: {"stop timer"}, 15: {"load"},
+    16: {"save"}, 17: {"row"},
+}
+# The longer ones first, so that `start timer` is not taken for `start`.
+CALL_NAMES = re.compile(
+    r"\b(?:create (?:thread|mutex|condition variable|timer)|start timer"
+    r"|stop timer|start|acquire|release|wait|signal|broadcast|tick|any call"
+    r"|load|save|row)\b"
+)
+
+
 class Guide(Case):
     """What is said of calls and answers, and the page on texts."""
 
     def test_calls(self) -> None:
         """Each call with its fields and their bounds, and what it does."""
         lines = calls.guide()
-        for text in (
-            "start ", "create thread BASE ", "create mutex CEILING ",
-            "create condition variable ", "create timer ", "acquire MUTEX ",
-            "release MUTEX ", "wait CONDITION MUTEX ", "signal CONDITION ",
-            "broadcast CONDITION ", "start timer TIMER CONDITION "
-            "one-shot|periodic MICROSECONDS ", "stop timer TIMER ", "tick ",
-        ):
-            found = [line for line in lines if line.startswith(text)]
-            self.assertTrue(found, text)
-            does = found[0][len(text):].strip()
-            self.assertGreater(len(does.split()), 2, text)
+        for line, (written, said) in zip(lines, CALLS_BY_HAND):
+            self.assertEqual(line.partition("  ")[0], written)
+            for words in said:
+                self.assertIn(words, line.partition("  ")[2])
+        self.assertEqual(lines[13], "")
         self.assertEqual([" ".join(line.split()) for line in lines[14:]], [
             "BASE 1 to 15", "CEILING 1 to 15", "MUTEX 0 to 15",
             "CONDITION 0 to 15", "TIMER 0 to 31",
@@ -974,6 +1020,28 @@ class Guide(Case):
         self.assertEqual(first, [
             "tick", "row", "part", "thread", "thread", "repeat", "expect", "#",
         ])
+
+    def test_all_lines(self) -> None:
+        """After the calls and their fields, every other line of a text."""
+        lines = guide()
+        self.assertEqual(lines[:20], calls.guide())
+        self.assertEqual(lines[20], "")
+        found = [
+            [part.strip() for part in line.split("  ", 1)]
+            for line in lines[21:]
+        ]
+        self.assertEqual(found, [list(each) for each in OTHER_LINES])
+        self.assertEqual([written for written, _ in found], [
+            "tick COUNT", "row BYTE ..", "part BYTE ..",
+            "thread NAME = create thread BASE", "thread NAME = ID",
+            "repeat TIMES", "expect ANSWER [GIVEN [RUNNING]]", "# ..",
+        ])
+        # What they are for stands in one column.
+        begins = {
+            len(line) - len(does)
+            for line, (_, does) in zip(lines[21:], found)
+        }
+        self.assertEqual(len(begins), 1)
 
     def test_answers(self) -> None:
         """Each of the numbers 0 to 17 has its meaning, and no other."""
@@ -990,6 +1058,30 @@ class Guide(Case):
             self.assertEqual(line.split()[0], str(number))
             self.assertIn(words[number], line)
             self.assertIn(answers.ANSWERS[number], line)
+
+    def test_answers_are_given_to(self) -> None:
+        """The calls beside each number are those of document 01."""
+        for number, line in enumerate(answers.guide()):
+            given = line.partition(answers.ANSWERS[number])[2]
+            self.assertEqual(
+                set(CALL_NAMES.findall(given)), GIVEN_BY_HAND[number], line
+            )
+        self.assertIn("not the owner", answers.GIVEN_TO[8])
+        for words in ("code is not 1 to 13", "unused field not 0",
+                      "kind above 1", "a last row that is cut short"):
+            self.assertIn(words, answers.GIVEN_TO[17])
+
+    def test_answers_of_the_second_program(self) -> None:
+        """It gives no number to a call that is not named beside it."""
+        seen: Set[int] = set()
+        for data in generated("calls", 10):
+            for each, answer in zip(split_rows(data), second(data)):
+                names = GIVEN_BY_HAND[answer.answer]
+                form = calls.form_of(each)
+                name = " ".join(form.words) if form else "row"
+                self.assertTrue({name, "any call"} & names, (name, answer))
+                seen.add(answer.answer)
+        self.assertGreater(len(seen), 10)
 
     def blocks(self) -> List[str]:
         """What is between the fences of the page."""
@@ -1031,6 +1123,12 @@ class Guide(Case):
             self.assertIn(f"{name} is {calls.bounds_of(name)}", page)
         for pattern, _ in OTHER_LINES[:3] + OTHER_LINES[4:7]:
             self.assertIn(f"`{pattern.replace('ID', '1')}`", page)
+        for words in (
+            "ANSWER is 0 to 17.", "GIVEN is 0 to 255 ", "RUNNING 0 to 255 ",
+            "blanks alone", "`./tehuamozo rows TEXT [START] [-o FILE]`",
+            "`./tehuamozo show CALLS [START]`",
+        ):
+            self.assertIn(words, page)
 
 
 if __name__ == "__main__":

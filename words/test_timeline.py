@@ -237,6 +237,72 @@ def idle_ticks(first: int, count: int, between: int = 0) -> Run:
     return run_of(each * count, start)
 
 
+class Sample(NamedTuple):
+    """A line of the legend: a kind of mark, what is in it, the words."""
+
+    kind: str
+    inside: str
+    words: str
+
+
+# By hand: what each kind of mark means, in columns of three.
+LEGEND: Tuple[Sample, ...] = (
+    Sample("running", "1", "running, in the thread's colour, with its number"),
+    Sample("mutex-wait", "2", "waits for the mutex of this number"),
+    Sample("one-shot", "0",
+           "one-shot timer for the condition variable of this number"),
+    Sample("ready", "", "ready"),
+    Sample("condition-variable-wait", "0",
+           "waits on the condition variable of this number"),
+    Sample("periodic", "0",
+           "periodic timer for the condition variable of this number"),
+    Sample("stopped", "", "not started yet"),
+    Sample("owned", "1", "the mutex is owned by the thread of this number"),
+    Sample("expiry", "", "the timer expires and signals"),
+    Sample("call", "", "call; accepted ticks stand on the axis"),
+    Sample("refused", "", "refused call, in words with its answer number"),
+)
+
+
+def place_of(mark: ElementTree.Element) -> Tuple[float, float]:
+    """Where a mark begins, whatever its shape."""
+    shape = mark.get("d")
+    if shape is None:
+        return float(mark.get("x", "")), float(mark.get("y", ""))
+    x, y = re.findall(r"[\d.]+", shape)[:2]
+    return float(x), float(y)
+
+
+def beside(
+    words: ElementTree.Element, marks: Sequence[ElementTree.Element]
+) -> List[ElementTree.Element]:
+    """The marks at the left of words in the legend, on the same line."""
+    right, bottom = place_of(words)
+    return [
+        mark for mark in marks
+        if right - 32 < place_of(mark)[0] < right
+        and bottom - 14 < place_of(mark)[1] <= bottom
+    ]
+
+
+def legend_of(root: ElementTree.Element) -> List[Sample]:
+    """The lines of the legend: each sample by its place, and the words."""
+    group, = root.findall(SVG + "g")
+    found: List[Sample] = []
+    for words in group.findall(SVG + "text"):
+        if words.get("class") == "legend":
+            near = beside(words, [
+                mark for mark in group
+                if mark.tag != SVG + "title" and mark is not words
+            ])
+            inside = [mark.text or "" for mark in near
+                      if mark.tag == SVG + "text"]
+            kind, = (mark.get("class", "") for mark in near
+                     if mark.tag != SVG + "text")
+            found.append(Sample(kind, "".join(inside), words.text or ""))
+    return found
+
+
 class Marks(unittest.TestCase):
     """Threads and mutexes."""
 
@@ -292,13 +358,63 @@ class Marks(unittest.TestCase):
         written = texts(root, "words")
         self.assertEqual(len(written), 10)
         self.assertIn("wait 0 0", written)
-        legend = " ".join(texts(root, "legend"))
-        for words in (
-            "running", "ready", "waits for the mutex", "not started yet",
-            "waits on the condition variable", "owned", "one-shot timer",
-            "periodic timer", "expires", "refused call",
-        ):
-            self.assertIn(words, legend)
+        self.assertEqual(len(texts(root, "legend")), 11)
+
+    def test_legend(self) -> None:
+        """Each kind of mark stands beside the words that say what it is."""
+        self.assertEqual(legend_of(drawn(CASE)), list(LEGEND))
+
+    def test_legend_has_all(self) -> None:
+        """Each kind of mark of a run with all of them is in the legend."""
+        calls = CALLS + rows("05", "05", "0B 00 00 00 D0 07", "07 03") + rows(
+            "0B 01 00 01 E8 03", "0D"
+        )
+        root = drawn(run_of(calls))
+        ground = {"paper", "stripe", "grid", "strong"}
+        shapes = (SVG + "rect", SVG + "path")
+        kinds = {mark.get("class", "") for mark in root if mark.tag in shapes}
+        self.assertEqual(kinds - ground, {each.kind for each in LEGEND})
+
+    def test_kinds_of_waiting_are_told_apart(self) -> None:
+        """Waiting on a condition variable has a broken border."""
+        root = drawn(CASE)
+        self.assertNotIn("dash", style_of(root, "mutex-wait"))
+        self.assertIn("dash", style_of(root, "condition-variable-wait"))
+
+    def test_row_numbers(self) -> None:
+        """A call's title has its row's number, which ticks have as well."""
+        calls = [
+            "create thread 4", "create thread 4", "create mutex 5",
+            "create condition variable", "start", "acquire 0", "wait 0 0",
+            "acquire 0", "signal 0", "", "release 0",
+        ]
+        wanted = [
+            f"row {number}: {call}" for number, call in enumerate(calls, 1)
+            if call
+        ]
+        self.assertEqual(titles(drawn(CASE), "call"), wanted)
+
+    def test_stopped_ends_at_the_start(self) -> None:
+        """The grey area is as wide as what comes before the start."""
+        for before in (0, 1, 5, 31):
+            calls = row("02 04") * before + rows("01", "0D", "0D")
+            root = drawn(run_of(calls))
+            stopped, = boxes(root, "stopped")
+            self.assertEqual(stopped.x, LEFT)
+            lefts, = column_lefts(root)
+            self.assertAlmostEqual(
+                stopped.x + stopped.width, lefts[0], delta=0.02
+            )
+
+    def test_never_started(self) -> None:
+        """What never starts is grey to its end, in each band."""
+        root = drawn(run_of(row("0D") * 500))
+        stopped, stripes = boxes(root, "stopped"), boxes(root, "stripe")
+        self.assertGreater(len(stopped), 1)
+        self.assertEqual(
+            [(box.x, box.width) for box in stopped],
+            [(box.x, box.width) for box in stripes],
+        )
 
     def test_same_bytes_each_time(self) -> None:
         """The same inputs give the same bytes in every process."""

@@ -6,6 +6,7 @@ expected of the answers. docs/TEXTS.md has it on one page.
     calls_of_text(name, data)     the calls of a text; name is its file's
     calls_of_rows(name, rows)     the calls of a file of rows
     unmet(calls, answers)         a line for each expectation that is not met
+    guide()                       the calls and all other lines, for people
 
 A text in trouble raises Trouble, whose text names the file and the line. A
 line is counted as an editor counts it, whatever its end: line feed, carriage
@@ -28,8 +29,8 @@ from borrowed import (
 )
 from calls import (
     CONDITION_VARIABLE, FIELDS, FORMS, KINDS, LIMITS, MOST_ROWS, MUTEX, ROW,
-    THREAD, TIMER, Names, bounds_of, find_form, form_of, number_of,
-    rows_of_words,
+    THREAD, TIMER, Names, bounds_of, find_form, form_of,
+    guide as guide_of_calls, number_of, rows_of_words,
 )
 from streams import Trouble, printable
 
@@ -60,7 +61,7 @@ AT_BOOT = (1, 0, 0, 0)
 MOST_TIMES = 1_000_000
 # Twenty repeats of two rounds are more rows than a text makes.
 DEEPEST = 20
-LARGEST_ANSWER, LARGEST_GIVEN, LARGEST_RUNNING = 17, 65_535, 255
+LARGEST_ANSWER, LARGEST_GIVEN, LARGEST_RUNNING = 17, 255, 255
 
 WRITE_NAME = (
     "write: KIND NAME = create .., or KIND NAME = ID, where KIND is thread, "
@@ -156,6 +157,14 @@ class Reading:
     line: int = 0
     # The line of the part row, after which there is no other.
     part: int = 0
+
+
+def guide() -> List[str]:
+    """The calls with their fields, then what else a line of a text can be."""
+    width = max(len(written) for written, _ in OTHER_LINES)
+    return guide_of_calls() + [""] + [
+        f"{written:{width}}  {does}" for written, does in OTHER_LINES
+    ]
 
 
 def no_text_byte(block: bytes) -> bool:
