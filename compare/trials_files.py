@@ -182,7 +182,10 @@ def unwritable(room: Path) -> bool:
         )
     ]
     done.append(door(room, "timeline", calls, "-o", "no/such.svg"))
-    dashes = [door(room, "record", record, "-"), door(room, "rows", text, "-o", "-")]
+    dashes = [
+        door(room, *words, "-")
+        for words in (["record", record], ["rows", text, "-o"])
+    ]
     files = sorted(os.listdir(room))
     return (
         all(not_done(each, "cannot be written") for each in done)
@@ -280,12 +283,12 @@ def to_device(room: Path) -> bool:
 def by_other_names(room: Path) -> bool:
     """Rows are read by any name that the system has for them."""
     put(room, "calls", RUN)
-    words = [
-        f"'{DOOR}' run {name}" for name in ("/dev/stdin", "/dev/fd/3", "-")
-    ]
+    words = "; ".join(
+        f"'{DOOR}' run {name}"
+        for name in ("/dev/stdin <calls", "/dev/fd/3 3<calls", "- <calls")
+    )
     done = subprocess.run(
-        ["sh", "-c", f"{words[0]} <calls; {words[1]} 3<calls; {words[2]} <calls"],
-        cwd=room, capture_output=True, check=False,
+        ["sh", "-c", words], cwd=room, capture_output=True, check=False
     )
     return done.stdout == RUN_TEXT * 3 and done.stderr == b""
 

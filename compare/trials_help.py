@@ -259,15 +259,20 @@ def prints_axioms(room: Path) -> bool:
 
 
 def counts_definitions(room: Path) -> bool:
-    """The page on trust has as many lines to believe as its command says."""
+    """The page on trust has as many lines to believe as its commands say."""
     page = TRUST.read_text("utf-8")
-    command = next(
+    commands = [
         line.strip() for line in page.splitlines() if "| wc -l" in line
+    ]
+    counts = [
+        int(subprocess.run(
+            ["sh", "-c", command], cwd=TOP, capture_output=True, check=True
+        ).stdout)
+        for command in commands
+    ]
+    return len(counts) == 2 and all(
+        f"{count:,} lines" in page for count in counts
     )
-    done = subprocess.run(
-        ["sh", "-c", command], cwd=TOP, capture_output=True, check=True
-    )
-    return f"{int(done.stdout):,} lines" in page
 
 
 def timeline_tells(room: Path) -> bool:

@@ -22,11 +22,11 @@ from typing import Callable, Dict, List, NoReturn, Sequence, Tuple
 import answers
 import axioms
 import built
-import calls
 import guide
 import running
 import showing
 import telling
+import texts
 from running import NOWHERE
 from sources import BOOT
 from streams import STANDARD_INPUT, Room, Trouble, complain, printable, put
@@ -216,7 +216,7 @@ def help_word(words: Sequence[str]) -> int:
     if len(words) > 1:
         raise WrongUse("help", "help takes one word")
     if subject == "calls":
-        text = "\n".join(calls.guide()) + "\n"
+        text = "\n".join(texts.guide()) + "\n"
     elif subject == "answers":
         text = "\n".join(answers.guide()) + "\n"
     elif not subject:

@@ -193,7 +193,7 @@ class Tables(unittest.TestCase):
             "0 01 00 00 00 00 00 00 00 18 00 1C 00 1C 00 1C 00", "16 1C 00",
             "answer 15: wrong form",
             "broken rule: form-short, header: "
-            "it has 24 bytes, and the record has 18",
+            "a header has 24 bytes, and the record has 18",
         ])
         self.assertEqual(
             shown(b"", 15)[:2], ["record of 0 bytes", "bytes: none"]
