@@ -550,6 +550,11 @@ def real_prover(room: Path) -> bool:
     return texts == [RUN_TEXT] * 2 and before == after
 
 
+# These change what is built in the tree that the other trials use.
+ALONE: List[Trial] = [
+    ("two at once with the real prover", real_prover),
+]
+
 TRIALS: List[Trial] = [
     ("two runs at once", in_copy(two_runs)),
     ("two records at once", in_copy(two_records)),
@@ -575,5 +580,4 @@ TRIALS: List[Trial] = [
     ("an interrupt while waiting", in_copy(interrupted_while_waiting)),
     ("a word killed while proving", in_copy(killed_while_proving)),
     ("an interrupt of the gate", in_copy(gate_is_interrupted)),
-    ("two at once with the real prover", real_prover),
 ]

@@ -186,6 +186,13 @@ def interrupts(room: Path) -> bool:
     return all(interrupted(room, *words) for words in many)
 
 
+def ended_rightly(status: int, said: bytes) -> bool:
+    """Whether a word was ended by an interrupt as it should be, or was done
+    before, or had not begun, which is the system's own silent end."""
+    ended = status == 130 and one_line(said, "interrupted")
+    return ended or (status, said) in ((0, b""), (-signal.SIGINT, b""))
+
+
 def interrupted_at_any_time(room: Path) -> bool:
     """So it is at whatever moment after the word has begun: no traceback."""
     put(room, "calls", RUN + b"\x0d\0\0\0\0\0\0\0" * 20_000)
@@ -194,10 +201,7 @@ def interrupted_at_any_time(room: Path) -> bool:
         time.sleep(part / 40)
         os.killpg(word.pid, signal.SIGINT)
         said = word.communicate(timeout=SECONDS)[1]
-        ended = word.returncode == 130 and one_line(said, "interrupted")
-        # It may be done before, or not have begun: the system's own end.
-        before = (word.returncode, said) in ((0, b""), (-signal.SIGINT, b""))
-        if not ended and not before:
+        if not ended_rightly(word.returncode, said):
             print(part, word.returncode, said)
             return False
     return True
@@ -219,8 +223,7 @@ def interrupted_often(room: Path) -> bool:
                 os.killpg(word.pid, signal.SIGINT)
             time.sleep(0.002)
         said = word.communicate(timeout=SECONDS)[1]
-        ended = word.returncode == 130 and one_line(said, "interrupted")
-        if not ended and (word.returncode, said) != (0, b""):
+        if not ended_rightly(word.returncode, said):
             print(part, word.returncode, said)
             return False
     return os.listdir(room / "temporary") == []

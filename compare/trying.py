@@ -8,6 +8,8 @@ not the repository's.
 
 from __future__ import annotations
 
+import contextlib
+import io
 import os
 import pty
 import select
@@ -16,6 +18,8 @@ import subprocess
 import sys
 import tempfile
 import time
+from concurrent.futures import ProcessPoolExecutor
+from multiprocessing import get_context
 from pathlib import Path
 from typing import Callable, Dict, List, NamedTuple, Optional, Tuple
 
@@ -23,6 +27,8 @@ TOP = Path(__file__).resolve().parent.parent
 DOOR = TOP / "tehuamozo"
 # Long enough for any wait here, on a busy machine and under the emulator.
 SECONDS = 600
+# Trials wait more than they work.
+AT_A_TIME = 4
 BOOT = bytes.fromhex(
     "01000000000000001800 1C001C001C001C00 000000000000 0001FF00"
     .replace(" ", "")
@@ -160,17 +166,38 @@ class Terminal:
         os.close(self.screen)
 
 
-def count(trials: List[Trial]) -> Tuple[int, int]:
-    """Try all, and say which fail; how many passed and failed."""
-    passed = failed = 0
-    for name, tried in trials:
-        with tempfile.TemporaryDirectory() as folder:
+def try_one(trial: Trial) -> str:
+    """Try one, in a folder of its own; what is wrong, or nothing."""
+    name, tried = trial
+    said = io.StringIO()
+    with tempfile.TemporaryDirectory() as folder:
+        with contextlib.redirect_stdout(said):
             try:
                 is_good = tried(Path(folder))
             except Exception as trouble:  # whatever it is, the trial failed
-                print(f"{name}: {type(trouble).__name__}: {trouble}")
+                print(f"{type(trouble).__name__}: {trouble}")
                 is_good = False
-        passed, failed = passed + is_good, failed + (not is_good)
-        if not is_good:
-            print(f"failed: {name}")
-    return passed, failed
+    return "" if is_good else f"failed: {name}\n{said.getvalue()}"
+
+
+# What is being tried: a process of its own finds a trial here by its number,
+# since functions that were made on the way cannot be sent to it.
+TRIED: List[Trial] = []
+
+
+def try_numbered(number: int) -> str:
+    """Try one of those that are being tried."""
+    return try_one(TRIED[number])
+
+
+def count(alone: List[Trial], trials: List[Trial]) -> Tuple[int, int]:
+    """Try some alone, the others some at a time, and say which fail; how
+    many passed and failed."""
+    found = [try_one(trial) for trial in alone]
+    TRIED[:] = trials
+    # Processes and not threads: a trial forks, and sets signals.
+    with ProcessPoolExecutor(AT_A_TIME, get_context("fork")) as pool:
+        found += pool.map(try_numbered, range(len(trials)))
+    wrong = [each for each in found if each]
+    print("".join(wrong), end="")
+    return len(found) - len(wrong), len(wrong)
