@@ -362,15 +362,9 @@ def interrupted_while_proving(copy: Copy) -> bool:
     the prover with all that it started, and lets the lock go."""
     child, screen = endless(copy), Terminal()
     word = begin_here(copy, "run", copy.calls, stderr=screen.line)
-    screen.hand_over()
-    said = screen.until(b"laws proved")
-    os.killpg(word.pid, signal.SIGINT)
-    word.communicate(timeout=SECONDS)
-    said = screen.until(b"", said)
-    screen.close()
+    shown = screen.interrupt(word, b"laws proved")
     return (
-        word.returncode == 130 and b"tehuamozo: laws proved" in said
-        and said.endswith(b"tehuamozo: interrupted\r\n")
+        b"tehuamozo: laws proved" in shown
         and is_gone(int(child.read_text())) and can_lock(copy.top)
     )
 
@@ -381,15 +375,10 @@ def interrupted_while_waiting(copy: Copy) -> bool:
     lock, screen = os.open(copy.top, os.O_RDONLY), Terminal()
     fcntl.flock(lock, fcntl.LOCK_EX)
     word = begin_here(copy, "run", copy.calls, stderr=screen.line)
-    screen.hand_over()
-    said = screen.until(b"waiting for another word")
-    os.killpg(word.pid, signal.SIGINT)
-    word.communicate(timeout=SECONDS)
-    said = screen.until(b"", said)
-    screen.close()
+    waiting = b"waiting for another word"
+    shown = screen.interrupt(word, waiting)
     os.close(lock)
-    ended = said.endswith(b"tehuamozo: interrupted\r\n")
-    return word.returncode == 130 and ended and copy.started() == []
+    return waiting in shown and copy.started() == []
 
 
 def killed_while_proving(copy: Copy) -> bool:

@@ -285,16 +285,9 @@ def timeline_tells(room: Path) -> bool:
     word = begin(
         room, "timeline", "text", "-o", "one.svg", stderr=screen.line
     )
-    screen.hand_over()
-    said = screen.until(b"% of the run traced")
-    os.killpg(word.pid, signal.SIGINT)
-    word.communicate(timeout=SECONDS)
-    said = screen.until(b"", said)
-    screen.close()
-    told = re.search(rb"tehuamozo: \d+% of the run traced", said) is not None
-    ended = said.endswith(b"tehuamozo: interrupted\r\n")
-    left = os.listdir(room) == ["text"]
-    return word.returncode == 130 and told and ended and left
+    shown = screen.interrupt(word, b"% of the run traced")
+    told = re.search(rb"tehuamozo: \d+% of the run traced", shown) is not None
+    return told and os.listdir(room) == ["text"]
 
 
 def readme_has_words(room: Path) -> bool:
@@ -309,15 +302,8 @@ def bench_tells(room: Path) -> bool:
     """bench says what it measures, and an interrupt ends it in one line."""
     screen = Terminal()
     word = begin(room, "bench", stdout=subprocess.PIPE, stderr=screen.line)
-    screen.hand_over()
-    said = screen.until(b"measuring")
-    os.killpg(word.pid, signal.SIGINT)
-    word.communicate(timeout=SECONDS)
-    said = screen.until(b"", said)
-    screen.close()
-    told = re.search(rb"tehuamozo: measuring \w+", said) is not None
-    ended = said.endswith(b"tehuamozo: interrupted\r\n")
-    return word.returncode == 130 and told and ended
+    shown = screen.interrupt(word, b"measuring")
+    return re.search(rb"tehuamozo: measuring \w+", shown) is not None
 
 
 TRIALS: List[Trial] = [

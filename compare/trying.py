@@ -165,6 +165,18 @@ class Terminal:
         """Close our side."""
         os.close(self.screen)
 
+    def interrupt(self, word: subprocess.Popen[bytes], when: bytes) -> bytes:
+        """Interrupt a word that has this terminal, once it shows something;
+        what it showed if it ended in its one line and 130, else nothing."""
+        self.hand_over()
+        shown = self.until(when)
+        os.killpg(word.pid, signal.SIGINT)
+        word.communicate(timeout=SECONDS)
+        shown = self.until(b"", shown)
+        self.close()
+        ended = shown.endswith(b"tehuamozo: interrupted\r\n")
+        return shown if ended and word.returncode == 130 else b""
+
 
 def try_one(trial: Trial) -> str:
     """Try one, in a folder of its own; what is wrong, or nothing."""

@@ -13,6 +13,7 @@ import tables
 from calls import text_of
 from running import (
     NOWHERE, finish_record, is_taken, run_told, say_refused,
+    say_what_was_said,
 )
 from sources import (
     BOOT, all_calls, all_there, counts_at, open_calls, open_start,
@@ -69,6 +70,7 @@ def record(name: str, target: Optional[str]) -> int:
         text: List[bytes] = []
         done = run_told(all_there(b"", name), start, path, text.append)
         answer = done.refused or DONE
+        say_what_was_said(done, output)
         put(tables.record_text(data, answer).encode("ascii"))
         if not tables.agrees(data, answer):
             raise Trouble("the proved program and the second one disagree")

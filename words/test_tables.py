@@ -11,7 +11,6 @@ something passed.
 from __future__ import annotations
 
 import random
-import struct
 import subprocess
 import sys
 import tempfile
@@ -20,7 +19,7 @@ from pathlib import Path
 from typing import Dict, List, Sequence, Set, Tuple
 
 from tables import agrees, record_text
-from testing import run_tests
+from testing import record, run_tests
 
 REFERENCE = Path(__file__).resolve().parent.parent / "reference"
 NONE = 255
@@ -36,25 +35,6 @@ NOT_SOUND = BOOT[:24] + b"\x01" + BOOT[25:]
 
 IDLE = (0, READY, NONE, 0)
 IDLE_RUNS = (0, RUNNING, NONE, 0)
-
-
-def record(
-    started: int, tick_count: int, threads: Sequence[Tuple[int, ...]],
-    mutexes: Sequence[Tuple[int, ...]] = (), ties: Sequence[int] = (),
-    timers: Sequence[Tuple[int, ...]] = (),
-) -> bytes:
-    """The bytes of a record, as document 01 lays them out."""
-    counts = [len(threads), len(mutexes), len(ties), len(timers)]
-    offsets = [24]
-    for count, size in zip(counts, (4, 4, 4, 8)):
-        offsets.append(offsets[-1] + count * size)
-    parts = [struct.pack("<10HI", *counts, *offsets, started, tick_count)]
-    parts += [bytes(thread) for thread in threads]
-    parts += [bytes((*mutex, 0)) for mutex in mutexes]
-    parts += [bytes((tie, 0, 0, 0)) for tie in ties]
-    parts += [struct.pack("<BBHHH", *timer, 0) for timer in timers]
-    return b"".join(parts)
-
 
 # Thread 1 owns mutex 0, for which thread 2 waits; thread 3 waits on condition
 # variable 1, tied to mutex 1; of the timers one is of each state.

@@ -12,7 +12,6 @@ from __future__ import annotations
 
 import os
 import re
-import struct
 import subprocess
 import sys
 import time
@@ -27,7 +26,7 @@ from calls import line_of, split_rows
 from drawing import LEFT, TALLEST
 from spread import BAND_WIDTH
 from streams import Trouble
-from testing import run_tests
+from testing import record, run_tests
 from timeline import pictures
 
 # Of the second program, which borrowed.py has put first in the path.
@@ -70,24 +69,6 @@ def row(text: str) -> bytes:
 def rows(*texts: str) -> bytes:
     """Several rows."""
     return b"".join(map(row, texts))
-
-
-def record(
-    started: int, tick_count: int, threads: Sequence[Tuple[int, ...]],
-    mutexes: Sequence[Tuple[int, ...]] = (), ties: Sequence[int] = (),
-    timers: Sequence[Tuple[int, ...]] = (),
-) -> bytes:
-    """The bytes of a record, as document 01 lays them out."""
-    counts = [len(threads), len(mutexes), len(ties), len(timers)]
-    offsets = [24]
-    for count, size in zip(counts, (4, 4, 4, 8)):
-        offsets.append(offsets[-1] + count * size)
-    parts = [struct.pack("<10HI", *counts, *offsets, started, tick_count)]
-    parts += [bytes(thread) for thread in threads]
-    parts += [bytes((*mutex, 0)) for mutex in mutexes]
-    parts += [bytes((tie, 0, 0, 0)) for tie in ties]
-    parts += [struct.pack("<BBHHH", *timer, 0) for timer in timers]
-    return b"".join(parts)
 
 
 BOOT = record(0, 0, [(0, READY, NONE, 0)])

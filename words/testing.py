@@ -1,5 +1,7 @@
-"""What the tests of the words share: the tests of a file run and counted.
+"""What the tests of the words share: records put together by hand, and the
+tests of a file run and counted.
 
+    record(..)             the bytes of a record, from its rows of numbers
     run_tests(__name__)    runs the tests of that file; the exit status
 
 Prints the result of each test and ends with one line, `N passed, M failed`.
@@ -9,9 +11,28 @@ the tests; it is no program.
 
 from __future__ import annotations
 
+import struct
 import sys
 import unittest
-from typing import Set
+from typing import Sequence, Set, Tuple
+
+
+def record(
+    started: int, tick_count: int, threads: Sequence[Tuple[int, ...]],
+    mutexes: Sequence[Tuple[int, ...]] = (), ties: Sequence[int] = (),
+    timers: Sequence[Tuple[int, ...]] = (),
+) -> bytes:
+    """The bytes of a record, as document 01 lays them out."""
+    counts = [len(threads), len(mutexes), len(ties), len(timers)]
+    offsets = [24]
+    for count, size in zip(counts, (4, 4, 4, 8)):
+        offsets.append(offsets[-1] + count * size)
+    parts = [struct.pack("<10HI", *counts, *offsets, started, tick_count)]
+    parts += [bytes(thread) for thread in threads]
+    parts += [bytes((*mutex, 0)) for mutex in mutexes]
+    parts += [bytes((tie, 0, 0, 0)) for tie in ties]
+    parts += [struct.pack("<BBHHH", *timer, 0) for timer in timers]
+    return b"".join(parts)
 
 
 def failed_tests(result: unittest.TestResult) -> Set[str]:

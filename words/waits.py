@@ -35,14 +35,20 @@ def running_lines(record: Record) -> List[str]:
     return lines or ["no thread runs"]
 
 
+def kept(clause: str, identity: int, count: int) -> str:
+    """The thread or mutex that keeps a thing, if there is one."""
+    if identity == NONE:
+        verb, _, noun = clause.rpartition(" ")
+        return f", {verb} no {noun}"
+    return f", {clause} {identity}{missing(identity, count)}"
+
+
 def owned_by(record: Record, mutex: int) -> str:
     """The owner of a mutex that is waited for."""
     if mutex >= len(record.mutexes):
         return MISSING
     owner = record.mutexes[mutex].owner
-    if owner == NONE:
-        return ", owned by no thread"
-    return f", owned by thread {owner}{missing(owner, len(record.threads))}"
+    return kept("owned by thread", owner, len(record.threads))
 
 
 def tied_to(record: Record, condition_variable: int) -> str:
@@ -50,19 +56,17 @@ def tied_to(record: Record, condition_variable: int) -> str:
     if condition_variable >= len(record.condition_variables):
         return MISSING
     tied = record.condition_variables[condition_variable].tied
-    if tied == NONE:
-        return ", tied to no mutex"
-    return f", tied to mutex {tied}{missing(tied, len(record.mutexes))}"
+    return kept("tied to mutex", tied, len(record.mutexes))
 
 
 def waiting_lines(record: Record) -> List[str]:
     """What each waiting thread waits for, and who or what keeps that."""
-    kept = {WAITS_FOR_MUTEX: owned_by, WAITS_ON_CONDITION_VARIABLE: tied_to}
+    keeps = {WAITS_FOR_MUTEX: owned_by, WAITS_ON_CONDITION_VARIABLE: tied_to}
     return [
         f"thread {identity} {standing(thread)}"
-        f"{kept[thread.state](record, thread.waited_for)}"
+        f"{keeps[thread.state](record, thread.waited_for)}"
         for identity, thread in enumerate(record.threads)
-        if thread.state in kept
+        if thread.state in keeps
     ]
 
 
