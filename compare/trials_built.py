@@ -22,8 +22,8 @@ from typing import Callable, Dict, Iterator, List, Set, Tuple
 
 from held import find_toolchain
 from trying import (
-    BOOT, RUN, RUN_TEXT, SECONDS, TOP, Done, Terminal, Trial, door,
-    hear_interrupts, not_done, one_line, put,
+    BOOT, RUN, RUN_TEXT, SECONDS, TOP, Done, Terminal, Trial, comes_true,
+    door, hear_interrupts, not_done, one_line, put,
 )
 
 # A prover that takes a while, so that two words meet.
@@ -273,12 +273,14 @@ def gate_stamps_what_it_proved(copy: Copy) -> bool:
 
 def gate_takes_lock(copy: Copy) -> bool:
     """The gate proves under the lock that words build under."""
+    at_work = copy.room / "at_work"
+    waits = f"touch '{at_work}'; while [ -e '{at_work}' ]; do sleep 0.1; done"
     stamp = subprocess.Popen(
-        [sys.executable, "-B", "words/stamp.py", "--", "sleep", "3"],
+        [sys.executable, "-B", "words/stamp.py", "--", "sh", "-c", waits],
         cwd=copy.top,
     )
-    time.sleep(1)
-    held = not can_lock(copy.top)
+    held = comes_true(at_work.exists) and not can_lock(copy.top)
+    at_work.unlink()
     return held and stamp.wait(SECONDS) == 0 and can_lock(copy.top)
 
 
@@ -337,12 +339,13 @@ def endless(copy: Copy) -> Path:
 
 
 def is_gone(process: int) -> bool:
-    """Whether a process has ended."""
-    for _ in range(50):
-        if not Path("/proc", str(process)).exists():
-            return True
-        time.sleep(0.1)
-    return False
+    """Whether a process ends."""
+    return comes_true(lambda: not Path("/proc", str(process)).exists())
+
+
+def is_noted(child: Path) -> bool:
+    """Whether the prover that does not end comes to note its child."""
+    return comes_true(lambda: child.exists() and child.read_text() != "")
 
 
 def begin_here(
@@ -386,29 +389,23 @@ def killed_while_proving(copy: Copy) -> bool:
     no second prover is let in."""
     child = endless(copy)
     word = begin_here(copy, "run", copy.calls, stderr=subprocess.PIPE)
-    while not child.exists() or not child.read_text():
-        time.sleep(0.1)
+    noted = is_noted(child)
     word.kill()
     word.communicate(timeout=SECONDS)
-    held = not can_lock(copy.top)
+    held = noted and not can_lock(copy.top)
     os.kill(int(child.read_text()), signal.SIGKILL)
-    for _ in range(50):
-        if can_lock(copy.top):
-            return held
-        time.sleep(0.1)
-    return False
+    return held and comes_true(lambda: can_lock(copy.top))
 
 
 def gate_is_interrupted(copy: Copy) -> bool:
     """An interrupt ends the gate in its one line and 130, with its prover."""
     child = endless(copy)
     word = begin_here(copy, "test", stderr=subprocess.PIPE)
-    while not child.exists() or not child.read_text():
-        time.sleep(0.1)
+    noted = is_noted(child)
     os.killpg(word.pid, signal.SIGINT)
     said = word.communicate(timeout=SECONDS)[1]
     return (
-        word.returncode == 130 and one_line(said, "interrupted")
+        noted and word.returncode == 130 and one_line(said, "interrupted")
         and is_gone(int(child.read_text()))
     )
 

@@ -128,6 +128,16 @@ def begin(
     )
 
 
+def comes_true(asked: Callable[[], bool]) -> bool:
+    """Whether something comes true, which is asked again and again."""
+    end = time.monotonic() + SECONDS
+    while not asked():
+        if time.monotonic() > end:
+            return False
+        time.sleep(0.1)
+    return True
+
+
 def read_on(file: int, so_far: bytes, until: bytes) -> bytes:
     """What is read from a pipe or a terminal until something is in it, or to
     its end where nothing else is waited for."""
