@@ -26,17 +26,22 @@ from trying import (
     door, hear_interrupts, not_done, one_line, put,
 )
 
-# A prover that takes a while, so that two words meet.
+# A prover that takes a while, so that two words meet. Like the real one it
+# leaves a program or library that it thinks it built as it is.
 STAND_IN = """\
 #!/bin/sh
 echo started >>"{count}"
 if [ -e "{busy}" ]; then echo two at once >>"{count}"; fi
 : >"{busy}"
 sleep 1
-mkdir -p target/bin target/staticlib
+mkdir -p target/bin target/stamp target/staticlib
+file=target/bin/$2 mark=target/stamp/$2 library=target/staticlib/lib$2.a
 case $1 in
-check) cp "{kept}/$2" "target/bin/$2" ;;
-staticlib) echo proved >"target/staticlib/lib$2.a" ;;
+check)
+    [ -e "$file" ] && [ -e "$mark" ] || cp "{kept}/$2" "$file"
+    : >"$mark"
+    ;;
+staticlib) [ -e "$library" ] || echo proved >"$library" ;;
 esac
 rm "{busy}"
 echo "rt: $2 proved (1 s)"
@@ -493,6 +498,24 @@ def serves_readers(copy: Copy) -> bool:
     return right and files_in(copy.top) == before
 
 
+def files_for_readers(copy: Copy) -> bool:
+    """A file that a reader may not write is not replaced, although its
+    folder would allow it: that is said before the run begins."""
+    if not copy.runs():
+        return False
+    put(copy.room, "end", BOOT)
+    (copy.room / "end").chmod(0o444)
+    with for_readers(copy):
+        copy.room.chmod(0o777)
+        done = read_only(copy, "run", copy.calls, "boot", "end")
+        beside = read_only(copy, "run", copy.calls, "boot", "new")
+    return (
+        not_done(done, "end: cannot be written: Permission denied")
+        and (copy.room / "end").read_bytes() == BOOT
+        and beside == Done(0, RUN_TEXT, b"") and (copy.room / "new").exists()
+    )
+
+
 def unbuilt_for_readers(copy: Copy) -> bool:
     """One who cannot write is told where the tree is not built."""
     with for_readers(copy):
@@ -560,6 +583,7 @@ TRIALS: List[Trial] = [
     ("sources that are not proved", in_copy(refused_sources)),
     ("through a symbolic link", in_copy(through_link)),
     ("readers of a built tree", in_copy(serves_readers)),
+    ("readers and files that they may not write", in_copy(files_for_readers)),
     ("readers of a tree that is not built", in_copy(unbuilt_for_readers)),
     ("the lock", in_copy(waits_for_lock)),
     ("an interrupt while proving", in_copy(interrupted_while_proving)),

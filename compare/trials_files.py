@@ -362,6 +362,44 @@ def input_also_output_by_pipe(room: Path) -> bool:
     return done.returncode == 2 and done.stdout == b"" and said and kept
 
 
+def unmet_and_end(room: Path) -> bool:
+    """An answer that is not the expected one is 1 also where END is asked
+    for, which is written all the same."""
+    text = put(room, "text", b"create thread 4\nstart\ntick expect 2\n")
+    done = door(room, "run", text, "boot", "end")
+    put(room, "rows", RUN)
+    second_text(str(room / "rows"), "boot", str(room / "second"))
+    return (
+        done[:2] == (1, RUN_TEXT) and one_line(done.said, "text:3: row 3")
+        and (room / "end").read_bytes() == (room / "second").read_bytes()
+    )
+
+
+def not_named(room: Path) -> bool:
+    """Files whose names the user did not write, those of a tall picture, take
+    no other file's place, and none that is read; an earlier picture's they
+    do."""
+    text = put(room, "text", b"create thread 4\nstart\ntick 40000\n")
+    words = ("timeline", text, "-o", "one.svg")
+    first = door(room, *words)
+    again = door(room, *words)
+    put(room, "one-2.svg", OLD)
+    other = door(room, *words)
+    kept = (room / "one-2.svg").read_bytes() == OLD
+    (room / "one-2.svg").unlink()
+    (room / "one-2.svg").symlink_to("text")
+    read = door(room, *words)
+    return (
+        first.status == 0 and first.text.split()[:2] == [
+            b"one-1.svg", b"one-2.svg"
+        ]
+        and again == first and kept and not (room / "one.svg").exists()
+        and not_done(other, "one-2.svg: is no picture of a run")
+        and not_done(read, "one-2.svg: is no picture of a run")
+        and (room / "text").read_bytes().startswith(b"create")
+    )
+
+
 def ended_by(number: signal.Signals) -> Callable[[Path], bool]:
     """A run that a signal ends leaves END as it was, and nothing beside."""
 
@@ -442,7 +480,10 @@ TRIALS: List[Trial] = [
     ("standard input that is also an output", input_also_output_by_pipe),
     ("a run that is interrupted", ended_by(signal.SIGINT)),
     ("a run that is ended", ended_by(signal.SIGTERM)),
+    ("a run whose terminal goes away", ended_by(signal.SIGHUP)),
     ("two runs into one END", at_once),
+    ("what is expected, and END", unmet_and_end),
+    ("pictures that would replace other files", not_named),
     ("no such file", unreadable("run", "no_such_file")),
     ("a folder", unreadable("run", ".")),
     ("no such record", unreadable("record", "no_such_file")),

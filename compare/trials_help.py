@@ -52,9 +52,14 @@ def helps(room: Path) -> bool:
 
 def helps_on_word(room: Path) -> bool:
     """help WORD and WORD --help tell of that word alone."""
-    first, second = door(room, "help", "record"), door(room, "record", "-h")
-    text = first.text
-    return first == second and b"record FILE" in text and b"rows" not in text
+    done = [
+        door(room, *words) for words in (
+            ("help", "record"), ("record", "-h"), ("record", "one", "--help"),
+        )
+    ]
+    text = done[0].text
+    right = b"record FILE" in text and b"rows" not in text
+    return done == [Done(0, text, b"")] * 3 and right
 
 
 def helps_on_calls(room: Path) -> bool:
@@ -290,6 +295,22 @@ def timeline_tells(room: Path) -> bool:
     return told and os.listdir(room) == ["text"]
 
 
+def tells(when: bytes, *words: str) -> Callable[[Path], bool]:
+    """Long work on a text or on lines says its share on a terminal."""
+
+    def tried(room: Path) -> bool:
+        put(room, "text", b"tick\n" * 400_000)
+        put(room, "rows", RUN + b"\x0d\0\0\0\0\0\0\0" * 100_000)
+        screen = Terminal()
+        # What is written is not read, so it lasts.
+        word = begin(room, *words, stderr=screen.line)
+        shown = screen.interrupt(word, when)
+        told = re.search(rb"tehuamozo: \d+" + when, shown) is not None
+        return told and sorted(os.listdir(room)) == ["rows", "text"]
+
+    return tried
+
+
 def readme_has_words(room: Path) -> bool:
     """The README has each word with what it takes, as help has it."""
     uses = re.findall(rb"^  (\./tehuamozo .*)$", door(room, "help").text, re.M)
@@ -337,6 +358,9 @@ TRIALS: List[Trial] = [
     ("words that are interrupted often", interrupted_often),
     ("letters that a screen does not know", other_letters),
     ("a long timeline", timeline_tells),
+    ("a long text", tells(b"% of the text read", "run", "text")),
+    ("many lines shown", tells(b"% of the lines", "show", "rows")),
+    ("many lines explained", tells(b"% of the lines", "explain", "rows")),
     ("bench", bench_tells),
     ("the README's words", readme_has_words),
     ("axioms", prints_axioms),

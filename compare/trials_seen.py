@@ -59,36 +59,44 @@ def explains(room: Path) -> bool:
     words and who runs; refusals are counted by number at the end."""
     done = door(room, "explain", put(room, "text", REFUSED_TEXT))
     rows, _, refusals = done.text.decode().partition("\n\n")
-    # The row, the line, and words of the caller, call, answer, who runs.
-    wanted: Sequence[Tuple[str, str, Sequence[str]]] = (
-        ("1", "1", ("create thread 4", "thread 1")),
-        ("2", "4", ("tick", "refused 2", "stopped")),
-        ("3", "5", ("start", "done", "thread 1")),
-        ("4", "6", ("thread 1", "tick", "done")),
-        ("5", "7", ("thread 1", "acquire 3", "refused 4", "not exist")),
-        ("6", "8", ("thread 1", "start", "refused 3")),
-        ("7", "9", ("acquire 3", "refused 4")),
+    # The row, the line, who called, the call, words of the answer, who runs.
+    wanted: Sequence[Sequence[str]] = (
+        ("1", "1", "none", "create thread 4", "done, thread 1", "none"),
+        ("2", "4", "none", "tick", "refused 2: the scheduler is st", "none"),
+        ("3", "5", "none", "start", "done", "thread 1"),
+        ("4", "6", "thread 1", "tick", "done", "thread 1"),
+        ("5", "7", "thread 1", "acquire 3", "refused 4: an id", "thread 1"),
+        ("6", "8", "thread 1", "start", "refused 3", "thread 1"),
+        ("7", "9", "thread 1", "acquire 3", "refused 4", "thread 1"),
     )
-    lines = rows.splitlines()[1:]
+    lines = [re.split(" {2,}", line.strip()) for line in rows.splitlines()]
     counts = (r"4 rows refused", r"2: .*once", r"3: .*once", r"4: .*twice")
     return (
-        done.status == 0 and done.said == b"" and len(lines) == len(wanted)
+        done.status == 0 and done.said == b""
         and all(re.search(count, refusals) for count in counts)
-        and all(
-            line.split()[:2] == [row, number]
-            and all(part in line for part in parts)
-            for line, (row, number, parts) in zip(lines, wanted)
+        and lines[0] == ["row", "line", "caller", "call", "answer", "runs"]
+        and len(lines) == len(wanted) + 1 and all(
+            len(line) == len(parts)
+            and all(map(str.startswith, line, parts))
+            for line, parts in zip(lines[1:], wanted)
         )
     )
 
 
 def explains_from_record(room: Path) -> bool:
-    """explain begins at START: the caller of the first row runs there."""
+    """explain begins at START: the caller of the first row runs there, or
+    nobody does."""
     put(room, "first", RUN_IN_WORDS)
     door(room, "run", "first", "boot", "record")
-    done = door(room, "explain", put(room, "more", b"tick\n"), "record")
-    row = done.text.decode().splitlines()[1]
-    return done.status == 0 and row.split()[:4] == ["1", "1", "thread", "1"]
+    put(room, "more", b"tick\n")
+    done = door(room, "explain", "more", "record")
+    stopped = door(room, "explain", "more", put(room, "boot.record", BOOT))
+    rows = [each.text.decode().splitlines()[1] for each in (done, stopped)]
+    return (
+        done.status == stopped.status == 0
+        and rows[0].split()[:4] == ["1", "1", "thread", "1"]
+        and rows[1].split()[:3] == ["1", "1", "none"]
+    )
 
 
 def draws(room: Path) -> bool:

@@ -141,16 +141,18 @@ def repeats_in_trouble(room: Path) -> bool:
     )
 
 
-def expected(word: str) -> Callable[[Path], bool]:
+def expected(word: str, *options: str) -> Callable[[Path], bool]:
     """What is expected and not met is said with the text's own line, and
-    the exit status is 1; the answers are there all the same."""
+    the exit status is 1; the answers or the picture are there all the
+    same."""
 
     def tried(room: Path) -> bool:
         text = (
             b"# first\ncreate thread 4 expect 0 1\nstart\nexpect 0 255 1\n"
             b"tick expect 2\ntick expect 0 1\ntick expect 0 0 2\n"
         )
-        done = door(room, word, put(room, "text", text))
+        done = door(room, word, put(room, "text", text), *options)
+        made = (room / "one.svg").exists() if options else done.text != b""
         lines = done.said.decode().splitlines()
         places = ("text:5: row 3", "text:6: row 4", "text:7: row 5")
         right = len(lines) == len(places) and all(
@@ -158,9 +160,9 @@ def expected(word: str) -> Callable[[Path], bool]:
         )
         met = b"create thread 4 expect 0 1 none\n"
         met += b"start expect 0 none 1\ntick 2 expect 0 0 1\n"
-        done_well = door(room, word, put(room, "good", met))
+        done_well = door(room, word, put(room, "good", met), *options)
         return (
-            done.status == 1 and done.text != b"" and right
+            done.status == 1 and made and right
             and done_well.status == 0 and done_well.said == b""
         )
 
@@ -215,24 +217,57 @@ def rows_stay_rows(room: Path) -> bool:
 
 
 def no_call_in_silence(room: Path) -> bool:
-    """Texts whose bytes are not a text's are said to be strange rows, by
-    every word that runs them; rows with one of right form are not."""
+    """Texts with bytes that stand in no text are refused, with the line, by
+    every word that takes calls; rows are rows."""
     strange = (
-        "thread h\u00e4nsel = create thread 4\n".encode("latin-1"),
-        b"tick\n\x0c\n", b"tick\n\x1a", "tick\n".encode("utf-16"),
+        ("thread h\u00e4nsel = create thread 4\n".encode("latin-1"), ":1: "),
+        (b"tick expect 9\n\x0c\n", ":2: byte 0C"), (b"tick\n\x1a", ":2: "),
+        ("tick\n".encode("utf-16"), ": is UTF-16"),
     )
     done = [
-        door(room, *words) for text in strange for words in (
+        not_done(door(room, *words), f"text{said}")
+        for text, said in strange for words in (
             ("run", put(room, "text", text)), ("explain", "text"),
-            ("timeline", "text", "-o", "one.svg"),
+            ("show", "text"), ("timeline", "text", "-o", "one.svg"),
         )
     ]
     plain = door(room, "run", put(room, "rows", b"\xff" * 8 + RUN))
-    said = all(
-        each.status == 0 and one_line(each.said, "text: ", "right form")
+    return all(done) and plain.said == b""
+
+
+def part_alone(room: Path) -> bool:
+    """A text whose rows are all of wrong form says so itself: nothing is
+    said of it."""
+    text = put(room, "text", b"row FF 00 00 00 00 00 00 00\npart 01 02\n")
+    done = door(room, "run", text)
+    explained = door(room, "explain", text)
+    lines = b"1 17 255 255\n2 17 255 255\n"
+    return (
+        done == Done(0, HEADING + lines, b"")
+        and explained.status == 0 and explained.said == b""
+    )
+
+
+def without_end(room: Path) -> bool:
+    """Calls that do not end do not fill the memory: a text has a bound, and
+    so have rows that are held whole."""
+    zeros = "cat /dev/zero | "
+    many = (
+        ("yes tick | ", "run -"), ("yes tick | ", "rows -"),
+        (zeros, "explain -"), (zeros, "show -"),
+        (zeros, "timeline - -o one.svg"),
+    )
+    done = [
+        subprocess.run(
+            ["sh", "-c", f"{source}'{DOOR}' {words}"], cwd=room,
+            capture_output=True, check=False, timeout=SECONDS,
+        )
+        for source, words in many
+    ]
+    return os.listdir(room) == [] and all(
+        not_done(Done(each.returncode, each.stdout, each.stderr), "67108864")
         for each in done
     )
-    return said and plain.said == b""
 
 
 def no_rows_for_rows(room: Path) -> bool:
@@ -383,10 +418,13 @@ TRIALS: List[Trial] = [
     ("repeat in trouble", repeats_in_trouble),
     ("expect, run", expected("run")),
     ("expect, explain", expected("explain")),
+    ("expect, timeline", expected("timeline", "-o", "one.svg")),
     ("the page's example", page_example),
     ("a text handed to run and timeline", text_for_run),
     ("rows of wrong form", rows_stay_rows),
     ("texts that are none by their bytes", no_call_in_silence),
+    ("a text of wrong rows", part_alone),
+    ("calls without end", without_end),
     ("rows handed to rows", no_rows_for_rows),
     ("standard input", from_standard_input),
     ("START from standard input", start_from_standard_input),

@@ -3,13 +3,13 @@
     row_of(form, words)     the row of a call from the words of its fields
     rows_of_words(words)    the bytes that the words of one line stand for
     line_of(row)            the line of a row, with names for ids if wanted
-    text_of(rows)           the text of rows, one line for each
+    lines_of(rows)          the lines of rows, one for each
     guide()                 the calls with their fields, for people
 
 Numbers are decimal. Besides the thirteen calls a line can be `tick COUNT`,
 that many ticks; `row` and eight bytes in hexadecimal, for rows of wrong form;
 and `part` and one to seven bytes, for a last row that is cut short. What a
-text has besides is in texts.py; from what text_of gives it makes the same
+text has besides is in texts.py; from what lines_of gives it makes the same
 bytes again. Words that are no call raise Trouble. Imported by the words; it
 is no program.
 """
@@ -290,6 +290,6 @@ def split_rows(rows: bytes) -> Iterator[bytes]:
         yield rows[offset:offset + ROW]
 
 
-def text_of(rows: bytes) -> str:
-    """The text of rows, one line for each."""
-    return "".join(line_of(row) + "\n" for row in split_rows(rows))
+def lines_of(rows: bytes) -> Iterator[str]:
+    """The lines of rows, one for each."""
+    return map(line_of, split_rows(rows))

@@ -244,7 +244,7 @@ def do(words: Sequence[str]) -> int:
         return help_word(rest)
     if word not in WORDS:
         raise WrongUse("", f"there is no word {printable(word)}")
-    if rest and rest[0] in HELP[1:]:
+    if not set(HELP[1:]).isdisjoint(rest):
         return help_word([word])
     return WORDS[word](rest)
 

@@ -13,14 +13,18 @@ from __future__ import annotations
 
 from bisect import bisect_left, bisect_right
 from operator import attrgetter
-from typing import FrozenSet, Iterator, List, NamedTuple, Sequence, Tuple
+from typing import (
+    Callable, FrozenSet, Iterator, List, NamedTuple, Sequence, Tuple,
+)
 
 from history import Expiry, History, Lane, Look
 from looks import (
     LANE, LETTER, STYLE, THREAD_KINDS, bar, bordered, centred, colour_of,
     cross, diamond, line, mark,
 )
-from spread import BAND_WIDTH, Band, Spread, spread_of, tick_columns
+from spread import (
+    BAND_WIDTH, MOST_WRITTEN, Band, Spread, spread_of, tick_columns,
+)
 from streams import printable
 from svg import box, number, path, text
 
@@ -36,6 +40,8 @@ STEPS = (1, 2, 5, 10, 20, 50, 100, 200, 500, 1_000)
 FIGURE, BESIDE_FIGURES = 6.5, 8
 LONGEST_CALL, BESIDE_EXPIRY = 60, 4
 moment_of = attrgetter("moment")
+# Gets how much of a work is done, and how much it is.
+Tell = Callable[[int, int], None]
 
 LEGEND = (
     ("running", "running, in the thread's colour, with its number", "1"),
@@ -53,6 +59,11 @@ LEGEND = (
     ("call", "call; accepted ticks stand on the axis", ""),
     ("refused", "refused call, in words with its answer number", ""),
 )
+# Where calls are not written.
+REFUSED_UNWRITTEN = "refused call; its answer number where it is pointed at"
+NOT_WRITTEN = f"; over {MOST_WRITTEN} rows, so calls are not in words"
+# How each picture begins, by which it is known for one.
+BEGINS = '<svg xmlns="http://www.w3.org/2000/svg" id="tehuamozo-timeline" '
 TOP = LEGEND_TOP + LEGEND_ROW * -(-len(LEGEND) // LEGEND_COLUMNS) + 16
 
 
@@ -310,10 +321,12 @@ def sample(kind: str, x: float, top: float, words: str) -> str:
     return framed + centred(figures, x + SAMPLE / 2, top, words)
 
 
-def draw_legend() -> Iterator[str]:
-    """What the marks mean."""
+def draw_legend(written: bool) -> Iterator[str]:
+    """What the marks mean; written is whether calls are in words."""
     yield "<g>\n<title>legend</title>\n"
     for index, (kind, words, inside) in enumerate(LEGEND):
+        if kind == "refused" and not written:
+            words = REFUSED_UNWRITTEN
         x = LEFT + index % LEGEND_COLUMNS * float(LEGEND_WIDTH)
         top = LEGEND_TOP + index // LEGEND_COLUMNS * float(LEGEND_ROW)
         yield sample(kind, x, top, inside)
@@ -341,7 +354,7 @@ def heading(
         said += f", of a run of {run.whole}"
     if sheet.spread.wider:
         said += "; ticks with many calls are drawn wider"
-    return said
+    return said if sheet.spread.written else said + NOT_WRITTEN
 
 
 def picture(
@@ -351,19 +364,23 @@ def picture(
     each = band_height(sheet)
     height = number(TOP + len(bands) * each)
     parts = [
-        f'<svg xmlns="http://www.w3.org/2000/svg" width="{WIDTH}" '
-        f'height="{height}" viewBox="0 0 {WIDTH} {height}">\n',
+        f'{BEGINS}width="{WIDTH}" height="{height}" '
+        f'viewBox="0 0 {WIDTH} {height}">\n',
         f"<style>\n{STYLE}</style>\n",
         box("paper", 0, 0, WIDTH, TOP + len(bands) * each, "#ffffff"),
         text("heading", LEFT, 20, heading(sheet, bands, index, pictures)),
-        *draw_legend(),
+        *draw_legend(sheet.spread.written),
     ]
     for place, band in enumerate(bands):
         parts.extend(draw_band(sheet, band, TOP + place * each))
     return "".join(parts) + "</svg>\n"
 
 
-def drawn(run: Run) -> List[str]:
+def tell_nobody(done: int, total: int) -> None:
+    """Say nothing of how many pictures are drawn, and of how many."""
+
+
+def drawn(run: Run, tell: Tell) -> List[str]:
     """The pictures of a run; there is at least the moment at its beginning."""
     sheet = sheet_of(run)
     most = max(int((TALLEST - TOP) // band_height(sheet)), 1)
@@ -371,7 +388,8 @@ def drawn(run: Run) -> List[str]:
     parts = [
         bands[first:first + most] for first in range(0, len(bands), most)
     ]
-    return [
-        picture(sheet, part, index, len(parts))
-        for index, part in enumerate(parts)
-    ]
+    pictures: List[str] = []
+    for index, part in enumerate(parts):
+        tell(index, len(parts))
+        pictures.append(picture(sheet, part, index, len(parts)))
+    return pictures

@@ -28,7 +28,7 @@ USES: Dict[str, Use] = {
     )),
     "timeline": Use("CALLS [START] [--ticks FIRST-LAST] -o FILE.svg", (
         "draw who ran at each tick, who waited, who owned what, and the",
-        "timers",
+        "timers; what is too tall for one is FILE-1.svg, FILE-2.svg, ..",
     )),
     "record": Use("FILE [OUT]", (
         "load a saved record, say the answer, and show it as tables; save",

@@ -218,10 +218,10 @@ def outcome(text: Text, size: int, status: int, said: bytes) -> Outcome:
 def place_read(process: int, path: str) -> int:
     """How much of a file a process has read, by what the system keeps for
     each open file."""
-    folder = Path("/proc") / str(process)
+    folder, whole = Path("/proc") / str(process), os.path.realpath(path)
     with contextlib.suppress(OSError, ValueError, IndexError):
         for file in (folder / "fd").iterdir():
-            if os.readlink(file) == path:
+            if os.readlink(file) == whole:
                 place = (folder / "fdinfo" / file.name).read_text("ascii")
                 return int(place.split()[1])
     return 0

@@ -12,6 +12,7 @@ import os
 from typing import Callable, Iterable, List, Optional, Sequence, Tuple
 
 import built
+import drawing
 import explain
 import programs
 import texts
@@ -22,7 +23,9 @@ from sources import (
     Start, all_calls, all_there, calls_of, handed_of, open_calls, open_start,
     running_at,
 )
-from streams import Output, Room, Trouble, complain, put, shown_name
+from streams import (
+    Output, Room, Trouble, complain, put, shown_name, shown_output,
+)
 from telling import telling
 
 DONE, REFUSED = 0, 1
@@ -38,6 +41,11 @@ def answers_in(text: bytes) -> List[Answer]:
     return [Answer(*map(int, line.split()[1:])) for line in lines]
 
 
+def share_of(done: int, total: int, what: str) -> str:
+    """How much of something is done, in words; a file can grow meanwhile."""
+    return f"{min(done * 100 // max(total, 1), 100)}% of the {what}"
+
+
 def share(answered: int, handed: programs.Handed) -> str:
     """How many of the calls are answered, where that can be told."""
     if answered < 0:
@@ -45,7 +53,7 @@ def share(answered: int, handed: programs.Handed) -> str:
     if not handed.size:
         return f"{answered} calls"
     rows = (handed.size + programs.ROW - 1) // programs.ROW
-    return f"{min(answered * 100 // rows, 100)}% of the calls"
+    return share_of(answered, rows, "calls")
 
 
 def run_told(
@@ -139,7 +147,8 @@ def run_into(
     if done.refused is not None:
         return say_refused(start, [] if end is None else [end.name])
     say_what_was_said(done, end)
-    say_all_wrong(handed.name, done)
+    if calls is None:
+        say_all_wrong(handed.name, done)
     if end is not None:
         finish_record(room, end)
     return say_unmet(calls, answers_in(b"".join(parts)))
@@ -166,19 +175,25 @@ def answers_of(
     if done.refused is not None:
         put(b"".join(parts))
         return None
-    say_all_wrong(calls.name, done)
+    if not calls.lines:
+        say_all_wrong(calls.name, done)
     return answers_in(b"".join(parts))
 
 
-def put_lines(lines: Iterable[str]) -> None:
-    """Write lines to standard output, many at once."""
+def put_lines(lines: Iterable[str], total: int = 0) -> None:
+    """Write lines to standard output, many at once, and tell how many of
+    about so many are written, unless they go to a terminal."""
     waiting: List[str] = []
-    for line in lines:
-        waiting.append(line + "\n")
-        if len(waiting) == MANY_LINES:
-            put("".join(waiting).encode())
-            waiting.clear()
-    put("".join(waiting).encode())
+    written = 0
+    is_told = total > 0 and not os.isatty(1)
+    with telling(lambda: share_of(written, total, "lines"), is_told):
+        for line in lines:
+            waiting.append(line + "\n")
+            if len(waiting) == MANY_LINES:
+                put("".join(waiting).encode())
+                written += len(waiting)
+                waiting.clear()
+        put("".join(waiting).encode())
 
 
 def is_taken(start: Start) -> bool:
@@ -196,7 +211,8 @@ def explain_calls(name: str, begin: str) -> int:
         answers = answers_of(calls, start)
         if answers is None:
             return say_refused(start, [])
-        put_lines(explain.explained(calls, running_at(start), answers))
+        lines = explain.explained(calls, running_at(start), answers)
+        put_lines(lines, len(answers))
         return say_unmet(calls, answers)
 
 
@@ -207,7 +223,7 @@ def traced(room: Room, calls: texts.Calls, start: Start) -> bytes:
 
     def traced_so_far() -> str:
         read = programs.place_read(processes[0], rows) if processes else 0
-        return f"{read * 100 // max(len(calls.rows), 1)}% of the run traced"
+        return share_of(read, len(calls.rows), "run traced")
 
     with built.program("trace") as program:
         with telling(traced_so_far):
@@ -226,21 +242,42 @@ def numbered(name: str, count: int) -> List[str]:
     return [f"{stem}-{number}{PICTURE}" for number in range(1, count + 1)]
 
 
+def is_picture(name: str) -> bool:
+    """Whether a file is a picture that was drawn here."""
+    begins = drawing.BEGINS.encode("ascii")
+    with contextlib.suppress(OSError, ValueError):
+        with open(name, "rb") as stream:
+            return stream.read(len(begins)) == begins
+    return False
+
+
 def say_older(name: str, count: int) -> None:
     """Say which file of an earlier picture stands beside the new ones."""
     stem = name[:-len(PICTURE)]
     first = 1 if count == 1 else count + 1
     others = [f"{stem}-{first}{PICTURE}"] + ([] if count == 1 else [name])
     for each in others:
-        if os.path.exists(each):
+        if is_picture(each):
             complain(f"{shown_name(each)} is of an earlier picture, and stays")
+
+
+def begin_numbered(room: Room, name: str) -> Output:
+    """Begin a picture whose number the user did not write: no file but an
+    earlier picture may give way to it."""
+    if os.path.lexists(name) and not is_picture(name):
+        raise Trouble(
+            f"{shown_name(name)}: is no picture of a run, and would be "
+            "replaced by one: nothing is written"
+        )
+    return room.output(name)
 
 
 def put_pictures(room: Room, name: str, pictures: Sequence[str]) -> None:
     """Write pictures, and say their names where there are several."""
     names = numbered(name, len(pictures))
     for each, picture in zip(names, pictures):
-        output = room.outputs[0] if each == name else room.output(each)
+        is_named = each == name
+        output = room.outputs[0] if is_named else begin_numbered(room, each)
         output.write(picture.encode("ascii"))
     if len(names) > 1:
         room.outputs.pop(0).drop()
@@ -256,7 +293,7 @@ def draw(
     """A picture of a run, or several where it is too tall for one."""
     if not picture.endswith(PICTURE):
         raise Trouble(
-            f"{shown_name(picture)}: a picture's name ends in {PICTURE}"
+            f"{shown_output(picture)}: a picture's name ends in {PICTURE}"
         )
     with Room() as room:
         source = open_calls(room, name)
@@ -269,7 +306,11 @@ def draw(
         trace = traced(room, calls, start)
         rows = split_rows(calls.rows)
         lines = [line_of(row, calls.names) for row in rows]
-        with telling(lambda: "drawing the picture"):
-            drawn = timeline.pictures(lines, answers, trace, ticks)
+        told = ["the trace is read"]
+        with telling(lambda: told[-1]):
+            drawn = timeline.pictures(
+                lines, answers, trace, ticks,
+                lambda n, total: told.append(share_of(n, total, "drawing")),
+            )
         put_pictures(room, picture, drawn)
-    return DONE
+        return say_unmet(calls, answers)

@@ -10,16 +10,16 @@ import os
 from typing import List, Optional
 
 import tables
-from calls import text_of
+from calls import ROW, lines_of
 from running import (
-    NOWHERE, finish_record, is_taken, run_told, say_refused,
+    NOWHERE, finish_record, is_taken, put_lines, run_told, say_refused,
     say_what_was_said,
 )
 from sources import (
     BOOT, all_calls, all_there, counts_at, open_calls, open_start,
 )
 from streams import Room, Trouble, complain, put, read_to, shown_name
-from texts import calls_of_text
+from texts import MOST_BYTES, calls_of_text, check_size
 
 DONE, REFUSED = 0, 1
 TERMINAL = "rows are not for a terminal: name a file with -o FILE"
@@ -31,7 +31,8 @@ def rows(name: str, begin: str, target: Optional[str]) -> int:
     """The rows of a text, to a file or standard output. Names of a text
     that is meant for a record follow those that exist there."""
     with Room() as room:
-        text = read_to(name, room.input(name))
+        text = read_to(name, room.input(name), MOST_BYTES + 1)
+        check_size(shown_name(name), text)
         start = open_start(room, begin)
         output = None if target is None else room.output(target)
         if start.path != BOOT and not is_taken(start):
@@ -54,7 +55,8 @@ def show(name: str, begin: str) -> int:
         start = open_start(room, begin)
         if start.path != BOOT and not is_taken(start):
             return say_refused(start, [])
-        put(text_of(all_calls(source, start).rows).encode("ascii"))
+        shown = all_calls(source, start).rows
+        put_lines(lines_of(shown), len(shown) // ROW)
     return DONE
 
 

@@ -9,12 +9,14 @@ words; it is no program.
 from __future__ import annotations
 
 import os
-from typing import List, NamedTuple, Optional, Sequence
+from typing import List, NamedTuple, Optional, Sequence, Tuple
 
 import texts
 from borrowed import answer_of, broken_rule, header_of, record_of
 from programs import Handed
-from streams import Room, identity_of, read_some, read_to, shown_name
+from streams import (
+    Room, Trouble, identity_of, read_some, read_to, shown_name,
+)
 
 BOOT = "boot"
 DONE = 0
@@ -47,20 +49,30 @@ def all_there(rows: bytes, name: str) -> Handed:
     return Handed(rows, name, None, len(rows))
 
 
+def read_head(name: str, file: int) -> Tuple[bytes, bool]:
+    """An input up to where it is told to be rows, or to its end, or to more
+    than a text has; and whether that is its end."""
+    parts: List[bytes] = []
+    size, is_rows, is_ended = 0, False, False
+    while not is_rows and not is_ended and size <= texts.MOST_BYTES:
+        part = read_some(name, file)
+        parts.append(part)
+        size += len(part)
+        is_rows, is_ended = texts.has_row_byte(part), not part
+    return b"".join(parts), is_ended
+
+
 def open_calls(room: Room, name: str) -> Source:
     """Open calls, and tell by their bytes whether they are a text."""
     file = room.input(name)
-    parts: List[bytes] = []
-    is_rows = is_ended = False
-    while not is_rows and not is_ended:
-        part = read_some(name, file)
-        parts.append(part)
-        is_ended = not part
-        is_rows = texts.no_text_byte(part)
-    head = b"".join(parts)
+    head, is_ended = read_head(name, file)
+    if texts.is_utf_16(head):
+        raise Trouble(f"{shown_name(name)}: is UTF-16, and a text is UTF-8")
+    if texts.is_text(head):
+        texts.check_size(shown_name(name), head)
+        return Source(name, head, all_there(head, name))
     if is_ended:
-        text = head if texts.is_text(head) else None
-        return Source(name, text, all_there(head, name))
+        return Source(name, None, all_there(head, name))
     status = os.fstat(file)
     size = status.st_size if identity_of(status) is not None else None
     return Source(name, None, Handed(head, name, file, size))
@@ -113,11 +125,18 @@ def handed_of(source: Source, calls: Optional[texts.Calls]) -> Handed:
 
 
 def rows_of(source: Source) -> bytes:
-    """All rows of calls that are no text."""
+    """All rows of calls that are no text, which are held in memory."""
     handed = source.handed
     if handed.file is None:
         return handed.head
-    return handed.head + read_to(source.name, handed.file)
+    most = texts.MOST_BYTES + 1 - len(handed.head)
+    rows = handed.head + read_to(source.name, handed.file, most)
+    if len(rows) > texts.MOST_BYTES:
+        raise Trouble(
+            f"{shown_name(source.name)}: more than {texts.MOST_BYTES} bytes "
+            "of rows are for run alone"
+        )
+    return rows
 
 
 def all_calls(source: Source, start: Start) -> texts.Calls:

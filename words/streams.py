@@ -39,11 +39,14 @@ def printable(word: str, most: int = LONGEST_WORD) -> str:
     return shown if len(shown) <= most else shown[:most] + ".."
 
 
-def shown_name(name: str) -> str:
-    """A file's name for a message."""
-    if name == STANDARD_INPUT:
-        return "standard input"
+def shown_output(name: str) -> str:
+    """An output's name for a message."""
     return printable(name, LONGEST_NAME)
+
+
+def shown_name(name: str) -> str:
+    """An input's name for a message, or another file's."""
+    return "standard input" if name == STANDARD_INPUT else shown_output(name)
 
 
 def file_trouble(name: str, doing: str, error: Exception) -> Trouble:
@@ -209,9 +212,11 @@ class Output:
         """Try whether the place can be written, and open the file beside."""
         if self.name == STANDARD_INPUT:
             raise Trouble("-: is no name for this output; ./- is a file's")
-        if not self.name or self.name.endswith("/"):
-            name = shown_name(self.name)
-            raise Trouble(f"{name}: cannot be written: Is a directory")
+        if not self.name:
+            raise Trouble("an output cannot be written without a name")
+        if self.name.endswith("/"):
+            name = shown_output(self.name)
+            raise Trouble(f"{name}: cannot be written: the name of a folder")
         try:
             before = old_file(self.name)
             if before is not None:

@@ -11,18 +11,26 @@ status is 0 only if nothing failed and something passed.
 
 from __future__ import annotations
 
+import contextlib
 import os
+import re
 import sys
 import tempfile
 import unittest
 from pathlib import Path
-from typing import List
+from typing import IO, Iterator, List
+from unittest import mock
 
-from programs import HEADING, Outcome, Text, outcome
-from running import finish_record, is_record
-from sources import all_there, open_calls, open_start
+import running
+import sources
+from programs import (
+    HEADING, Feeder, Handed, Outcome, Text, outcome, place_read,
+)
+from running import finish_record, is_record, share
+from sources import Start, all_there, open_calls, open_start, running_at
 from streams import Output, Room, Trouble, printable
-from testing import run_tests
+from testing import record, run_tests
+from timeline import pictures
 
 OLD = b"what was there before"
 BOOT = bytes.fromhex(
@@ -32,6 +40,18 @@ BOOT = bytes.fromhex(
 # The header says as many bytes as there are: 24, 4 for each of 32 threads,
 # 16 mutexes and 16 condition variables, and 8 for each of 32 timers.
 LONGEST = 536
+
+
+@contextlib.contextmanager
+def standard_error(file: IO[bytes]) -> Iterator[None]:
+    """While standard error goes into a file."""
+    kept = os.dup(2)
+    os.dup2(file.fileno(), 2)
+    try:
+        yield
+    finally:
+        os.dup2(kept, 2)
+        os.close(kept)
 
 
 def text_of(*blocks: bytes) -> Text:
@@ -98,6 +118,50 @@ class Outcomes(unittest.TestCase):
         self.assertFalse(self.ended(text_of(HEADING), 0).is_all_wrong)
 
 
+class Unreadable(unittest.TestCase):
+    """Calls that cannot be read to their end."""
+
+    def test_handed_on(self) -> None:
+        """What is in the way of reading is kept, after what was read."""
+        file = os.open(os.devnull, os.O_WRONLY)
+        self.addCleanup(os.close, file)
+        with tempfile.TemporaryFile() as kept:
+            sink = os.fdopen(os.dup(kept.fileno()), "wb")
+            feeder = Feeder(Handed(b"\x0d", "calls", file, None), sink)
+            feeder.run()
+            kept.seek(0)
+            self.assertEqual(kept.read(), b"\x0d")
+        self.assertEqual(
+            str(feeder.trouble), "calls: cannot be read: Bad file descriptor"
+        )
+
+
+class Shares(unittest.TestCase):
+    """How far a run is, in words."""
+
+    def test_share(self) -> None:
+        """Of the rows there are, a part row among them."""
+        for answered, size, words in (
+            (-1, 800, ""), (0, 800, "0% of the calls"),
+            (50, 800, "50% of the calls"), (100, 800, "100% of the calls"),
+            (1, 9, "50% of the calls"), (200, 800, "100% of the calls"),
+            (7, None, "7 calls"),
+        ):
+            handed = Handed(b"", "calls", None, size)
+            self.assertEqual(share(answered, handed), words)
+
+    def test_place_read(self) -> None:
+        """How much of a file was read, by any of its names."""
+        with tempfile.TemporaryDirectory() as folder:
+            file, link = Path(folder, "rows"), Path(folder, "link")
+            file.write_bytes(bytes(100))
+            link.symlink_to(folder)
+            with file.open("rb", buffering=0) as stream:
+                stream.read(60)
+                for path in (file, link / "rows"):
+                    self.assertEqual(place_read(os.getpid(), str(path)), 60)
+
+
 class Folder(unittest.TestCase):
     """A folder of its own for each test, and the user stands in it."""
 
@@ -143,6 +207,36 @@ class Records(Folder):
             finish_record(room, output)
         self.assertEqual(Path("end").read_bytes(), BOOT)
         self.assertEqual(self.names(), ["end"])
+
+    def test_said(self) -> None:
+        """What the program said is handed on, with END by its own name, and
+        END stays as it was where no record was written."""
+        Path("end").write_bytes(OLD)
+        with tempfile.TemporaryFile() as said, Room() as room:
+            end = room.output("end")
+            words = os.fsencode(end.path()) + b": No space left on device\n"
+            done = mock.patch.object(
+                running, "run_told", return_value=Outcome(None, False, words)
+            )
+            with done, standard_error(said), self.assertRaises(Trouble):
+                start = Start(sources.BOOT, sources.BOOT, b"")
+                running.run_into(room, all_there(b"", "x"), start, end, None)
+            said.seek(0)
+            self.assertEqual(said.read(), b"end: No space left on device\n")
+        self.assertEqual(Path("end").read_bytes(), OLD)
+
+    def test_who_runs(self) -> None:
+        """Nobody runs at boot and while stopped; else the running thread."""
+        stopped = Start("start", "start", BOOT)
+        waiting = record(1, 0, [(0, 2, 255, 0), (4, 3, 0, 0), (4, 3, 1, 0)],
+                         [(4, 2, 1), (4, 1, 1)])
+        first = record(1, 0, [(0, 1, 255, 0), (4, 2, 255, 0)])
+        for start, runs in (
+            (Start(sources.BOOT, sources.BOOT, b""), 255), (stopped, 255),
+            (Start("start", "start", waiting), 0),
+            (Start("start", "start", first), 1),
+        ):
+            self.assertEqual(running_at(start), runs)
 
 
 class Outputs(Folder):
@@ -194,6 +288,29 @@ class Outputs(Folder):
             self.put("one", "no/such")
         self.assertEqual(Path("one").read_bytes(), OLD)
         self.assertEqual(self.names(), ["one"])
+
+    def test_said(self) -> None:
+        """What is wrong with a name is said of that name."""
+        for name, said in (
+            ("", "an output cannot be written without a name"),
+            ("new/", "new/: cannot be written: the name of a folder"),
+            ("-", "-: is no name for this output; ./- is a file's"),
+        ):
+            with self.assertRaisesRegex(Trouble, f"^{re.escape(said)}$"):
+                self.put(name)
+        with self.assertRaisesRegex(Trouble, "^-: a picture's name ends in"):
+            running.draw("calls", sources.BOOT, None, "-")
+
+    def test_pictures(self) -> None:
+        """A file is a picture by how it begins."""
+        picture, = pictures([], [], BOOT, None)
+        for data, is_one in (
+            (picture.encode(), True), (b"<svg></svg>", False), (b"", False),
+        ):
+            Path("one.svg").write_bytes(data)
+            self.assertEqual(running.is_picture("one.svg"), is_one)
+        self.assertFalse(running.is_picture("two.svg"))
+        self.assertFalse(running.is_picture("."))
 
     def test_dropped_once(self) -> None:
         """An output that was never begun has nothing to finish."""

@@ -22,13 +22,13 @@ from typing import Dict, List, Sequence, Set, Tuple
 import answers
 import calls
 from borrowed import Answer
-from calls import line_of, split_rows, text_of
+from calls import line_of, lines_of, split_rows
 from explain import explained
 from streams import Trouble
 from testing import run_tests
 from texts import (
-    OTHER_LINES, Calls, Expectation, calls_of_rows, calls_of_text, guide,
-    is_text, no_text_byte, unmet,
+    MOST_BYTES, OTHER_LINES, Calls, Expectation, calls_of_rows, calls_of_text,
+    check_size, guide, has_row_byte, is_text, is_utf_16, unmet,
 )
 
 # The second program's, which borrowed.py made findable.
@@ -391,10 +391,10 @@ class ToldApart(Case):
         for data in (
             b"", b"\n#", b"tick", b"tick\r\tstart", b"# \xff\xfe\n tick",
             b"\xef\xbb\xbftick", "gr\u00fcn".encode(), b"no call at all",
-            b"AAAAAAAA",
+            b"AAAAAAAA", b"# \xe4\xf6\xfc\xe4\xf6\xfc\xe4\xf6\xfc",
         ):
             self.assertTrue(is_text(data), data)
-            self.assertFalse(no_text_byte(data), data)
+            self.assertFalse(has_row_byte(data), data)
 
     def test_blanks(self) -> None:
         """Blanks alone are rows, the last of which may be cut short."""
@@ -404,18 +404,59 @@ class ToldApart(Case):
             self.assertTrue(is_text(data + b"#"), data)
 
     def test_every_byte(self) -> None:
-        """Control bytes but three stand in no text."""
+        """Control bytes but three stand in no text: two of them are those of
+        rows, and the others are said with their line."""
         allowed = {9, 10, 13, *range(32, 127), *range(128, 256)}
         for byte in range(256):
             data = b"# " + bytes((byte,)) + b" \ntick"
-            self.assertEqual(is_text(data), byte in allowed, byte)
-            self.assertEqual(no_text_byte(data), byte not in allowed, byte)
+            self.assertEqual(is_text(data), byte not in (0, 11), byte)
+            self.assertEqual(has_row_byte(data), byte in (0, 11), byte)
+            if byte not in allowed:
+                said = self.trouble(data)
+                self.assertEqual(said, f"name:1: byte {byte:02X} stands in no "
+                                 "text")
 
     def test_letters(self) -> None:
-        """What stands before a # is UTF-8, on each line."""
-        for data in (b"\xff", b"tick # \xff\n\xff", b"tick\r\xc3# a"):
+        """What stands before a # is UTF-8, on each line; where it is not, a
+        text is said to be none, and what is not mostly letters is rows."""
+        for data, line in (
+            (b"tick # \xff\n\xff", 2), (b"tick\r\xc3# a", 2),
+            (b"gr\xfcn", 1),
+        ):
+            self.assertTrue(is_text(data), data)
+            said = self.trouble(data)
+            self.assertTrue(said.startswith(f"name:{line}: "), said)
+            self.assertIn("not UTF-8", said)
+        for data in (b"\xff", b"\xff" * 8, b"A\xff\x01", b"\x01\x02\x03"):
             self.assertFalse(is_text(data), data)
-            self.assertFalse(no_text_byte(data), data)
+            self.assertFalse(has_row_byte(data), data)
+
+    def test_half_letters(self) -> None:
+        """Half of the bytes are enough."""
+        self.assertTrue(is_text(b"AAAA\x01\x01\x01\x01"))
+        self.assertFalse(is_text(b"AAA\x01\x01\x01\x01"))
+
+    def test_utf_16(self) -> None:
+        """Texts that some editors write are known, and no right row is."""
+        for way in ("utf-16", "utf-16-le", "utf-16-be"):
+            mark = b"" if way == "utf-16" else "\ufeff".encode(way)
+            text = mark + "create thread 4\r\nstart\n".encode(way)
+            for length in (3, 4, 9, len(text)):
+                wanted = length > 3
+                self.assertEqual(is_utf_16(text[:length]), wanted, length)
+            self.assertFalse(is_utf_16(text[2:]))
+        for data in (
+            b"", b"\xff", b"\xff\xfe", b"\xff\xfe\xff\xfe",
+            b"\xff\xfe" + bytes(6), b"\xff\xfe" + b"A\0" * 3 + row("0D"),
+            b"\xff\xfe" + b"A\0" * 3 + b"\x0b\x01" + b"A\0" * 3,
+        ):
+            self.assertFalse(is_utf_16(data), data)
+
+    def test_size(self) -> None:
+        """A text has at most so many bytes."""
+        check_size("name", bytes(MOST_BYTES))
+        with self.assertRaisesRegex(Trouble, f"^name: .* {MOST_BYTES} bytes$"):
+            check_size("name", bytes(MOST_BYTES + 1))
 
     def test_no_right_call_is_a_text(self) -> None:
         """All thirteen codes, with the fields that look most like a text."""
@@ -432,14 +473,14 @@ class ToldApart(Case):
         for form in calls.FORMS:
             data = bytes((form.code,)).ljust(8, b"\0")
             self.assertNotEqual(answer_row(Book(), data).answer, 17)
-            self.assertTrue(no_text_byte(data), data)
+            self.assertTrue(has_row_byte(data), data)
 
     def test_generated(self) -> None:
         """Files of rows are none, and what is shown of them are texts."""
         for data in generated("calls", 10):
             right = any(answer.answer != 17 for answer in second(data))
             self.assertFalse(right and is_text(data))
-            self.assertTrue(is_text(text_of(data).encode()))
+            self.assertTrue(is_text("\n".join(lines_of(data)).encode()))
 
 
 class Names(Case):
@@ -544,6 +585,8 @@ class Names(Case):
         """Names that differ in their capitals are two."""
         found = read("mutex a = 1\nmutex A = 2\nacquire A\nacquire a\n")
         self.assertEqual(found.rows, rows("06 02", "06 01"))
+        for text in (b"mutex a = 1\nacquire A\n", b"mutex A = 1\nacquire a"):
+            self.assertIn("name:2: no mutex is named", self.trouble(text))
 
 
 class Repeats(Case):
@@ -716,7 +759,7 @@ class Shown(Case):
 
     def shown(self, data: bytes) -> List[str]:
         """The lines of rows; the way back is tried as well."""
-        text = text_of(data)
+        text = "".join(f"{line}\n" for line in lines_of(data))
         self.assertEqual(read(text).rows, data)
         self.assertTrue(text.endswith("\n") or not data)
         return text.splitlines()
@@ -1018,7 +1061,8 @@ class Guide(Case):
         """What is no call has its pattern as well, for people."""
         first = [pattern.split()[0] for pattern, _ in OTHER_LINES]
         self.assertEqual(first, [
-            "tick", "row", "part", "thread", "thread", "repeat", "expect", "#",
+            "tick", "row", "part", "thread", "thread", "repeat", "end",
+            "expect", "#",
         ])
 
     def test_all_lines(self) -> None:
@@ -1034,7 +1078,7 @@ class Guide(Case):
         self.assertEqual([written for written, _ in found], [
             "tick COUNT", "row BYTE ..", "part BYTE ..",
             "thread NAME = create thread BASE", "thread NAME = ID",
-            "repeat TIMES", "expect ANSWER [GIVEN [RUNNING]]", "# ..",
+            "repeat TIMES", "end", "expect ANSWER [GIVEN [RUNNING]]", "# ..",
         ])
         # What they are for stands in one column.
         begins = {

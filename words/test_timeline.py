@@ -617,6 +617,18 @@ class Refused(unittest.TestCase):
         self.assertEqual(len(titles(root, "refused")), 150)
         self.assertEqual(texts(root, "refused-words"), [])
 
+    def test_words_are_said_to_be_there(self) -> None:
+        """Legend and heading say whether calls are in words."""
+        for ticks, written in ((99, True), (100, False)):
+            root = drawn(idle_ticks(0, ticks, 1))
+            words, = (
+                sample.words for sample in legend_of(root)
+                if sample.kind == "refused"
+            )
+            self.assertEqual(len(texts(root, "refused-words")) > 0, written)
+            self.assertEqual("in words" in words, written)
+            self.assertEqual("not in words" in heading(root), not written)
+
 
 # A condition variable and two timers, started: timer 0 one-shot of 2 ticks,
 # timer 1 periodic of 1 tick.
@@ -983,7 +995,8 @@ class Tall(unittest.TestCase):
             found = re.fullmatch(
                 rf"picture {index} of {len(self.roots)}, "
                 r"ticks (\d+) to (\d+), rows (\d+) to (\d+), "
-                "of a run of 6032 rows, ticks 0 to 6000", heading(root),
+                "of a run of 6032 rows, ticks 0 to 6000; over 200 rows, so "
+                "calls are not in words", heading(root),
             )
             assert found is not None, heading(root)
             first, last, first_row, last_row = map(int, found.groups())

@@ -2,7 +2,8 @@
 expected of the answers. docs/TEXTS.md has it on one page.
 
     is_text(data)                 whether bytes are a text and no rows
-    no_text_byte(block)           whether a block has a byte that no text has
+    has_row_byte(block)           whether a block has a byte of a right row
+    check_size(name, data)        trouble where a text is too long
     calls_of_text(name, data)     the calls of a text; name is its file's
     calls_of_rows(name, rows)     the calls of a file of rows
     unmet(calls, answers)         a line for each expectation that is not met
@@ -30,15 +31,19 @@ from borrowed import (
 from calls import (
     CONDITION_VARIABLE, FIELDS, FORMS, KINDS, LIMITS, MOST_ROWS, MUTEX, ROW,
     THREAD, TIMER, Names, bounds_of, find_form, form_of,
-    guide as guide_of_calls, number_of, rows_of_words,
+    guide as guide_of_calls, number_of, rows_of_words, split_rows,
 )
 from streams import Trouble, printable
+from telling import telling
 
-# Every row of right form has a byte that no text has: of the codes 1 to 10,
-# 12 and 13 v is unused, so zero bytes; code 11 is byte 0B itself. So no file
-# with a right call in it is taken for a text.
+# Every row of right form has one of these bytes, which no text has: of the
+# codes 1 to 10, 12 and 13 v is unused, so zero bytes; code 11 is byte 0B
+# itself. So no file with a right call in it is taken for a text.
+OF_RIGHT_ROW = re.compile(rb"[\x00\x0b]")
 NO_TEXT = re.compile(rb"[\x00-\x08\x0b\x0c\x0e-\x1f\x7f]")
 BLANKS = b" \t\r\n"
+LETTERS = bytes(range(32, 127)) + BLANKS
+UTF_16 = (b"\xff\xfe", b"\xfe\xff")
 BYTE_ORDER_MARK = b"\xef\xbb\xbf"
 # Blanks end a word, and so does the sign of a name given.
 WORDS = re.compile(r"[^\s=]+|=")
@@ -58,6 +63,8 @@ MADE: Mapping[int, str] = {
 }
 AT_BOOT = (1, 0, 0, 0)
 
+# A text is held in memory, many times its size; this is 10 million lines.
+MOST_BYTES = 67_108_864
 MOST_TIMES = 1_000_000
 # Twenty repeats of two rounds are more rows than a text makes.
 DEEPEST = 20
@@ -78,6 +85,7 @@ OTHER_LINES: Tuple[Tuple[str, str], ...] = (
     ("thread NAME = ID", "a name for what exists already; so for the others"),
     ("repeat TIMES", f"the lines up to `end` stand there 1 to {MOST_TIMES} "
      "times"),
+    ("end", "ends the lines of a `repeat`"),
     ("expect ANSWER [GIVEN [RUNNING]]",
      "what the last row is answered; at the end of a call's line as well"),
     ("# ..", "what follows does not count"),
@@ -167,9 +175,9 @@ def guide() -> List[str]:
     ]
 
 
-def no_text_byte(block: bytes) -> bool:
-    """Whether a block has a byte that no text has: a control byte."""
-    return NO_TEXT.search(block) is not None
+def has_row_byte(block: bytes) -> bool:
+    """Whether a block has a byte that every right row has, and no text."""
+    return OF_RIGHT_ROW.search(block) is not None
 
 
 def is_utf_8(data: bytes) -> bool:
@@ -189,17 +197,39 @@ def lines_of(data: bytes) -> List[bytes]:
     return ended.split(b"\n")
 
 
+def is_mostly_letters(data: bytes) -> bool:
+    """Whether bytes are meant to be read: half of them at least, ASCII."""
+    return 2 * len(data.translate(None, LETTERS)) <= len(data)
+
+
 def is_text(data: bytes) -> bool:
-    """Whether bytes are a text; the comments of one can be of any letters.
+    """Whether bytes are a text; its lines tell whether it is a right one.
 
     Blanks alone say nothing, and are rows, so that the codes 09, 0A and 0D
-    get their answer where they are a last row of one byte.
+    get their answer where they are a last row of one byte. What has no right
+    row and is mostly letters is a text, also with a byte that stands in none.
     """
-    if no_text_byte(data) or data and not data.strip(BLANKS):
+    if has_row_byte(data) or data and not data.strip(BLANKS):
         return False
-    return is_utf_8(data) or all(
+    return is_mostly_letters(data) or NO_TEXT.search(data) is None and all(
         is_utf_8(line.partition(b"#")[0]) for line in lines_of(data)
     )
+
+
+def is_utf_16(block: bytes) -> bool:
+    """Whether a file that begins so is a text in UTF-16, by its mark, its
+    letters, and that no row of it is of right form."""
+    if not block.startswith(UTF_16):
+        return False
+    words = block[:len(block) // 2 * 2].decode("utf-16", "replace")
+    is_read = words != "" and is_mostly_letters(words.encode("utf-8"))
+    return is_read and not any(map(form_of, split_rows(block)))
+
+
+def check_size(name: str, data: bytes) -> None:
+    """Trouble where a text is too long to be held in memory."""
+    if len(data) > MOST_BYTES:
+        raise Trouble(f"{name}: a text has at most {MOST_BYTES} bytes")
 
 
 def words_of(line: bytes) -> List[str]:
@@ -503,12 +533,17 @@ def read_line(reading: Reading, words: Sequence[str]) -> None:
 
 def read_text(name: str, reading: Reading, lines: Sequence[bytes]) -> None:
     """Read all lines; trouble names the file and the line."""
+
+    def so_far() -> str:
+        return f"{reading.line * 100 // len(lines)}% of the text read"
+
     try:
-        for number, line in enumerate(lines, 1):
-            reading.line = number
-            words = words_of(line)
-            if words:
-                read_line(reading, words)
+        with telling(so_far):
+            for number, line in enumerate(lines, 1):
+                reading.line = number
+                words = words_of(line)
+                if words:
+                    read_line(reading, words)
         if len(reading.blocks) > 1:
             reading.line = reading.blocks[-1].line
             raise Trouble("this repeat has no end")

@@ -1,14 +1,14 @@
 """Draws a run: who ran, who waited, who owned each mutex, and which timers
 ran, tick by tick.
 
-    pictures(lines, answers, trace, ticks)    the SVG texts, one a picture
+    pictures(lines, answers, trace, ticks, tell)    the SVG texts, one each
 
 lines has the text of each row of the calls, answers the answer to each. The
 trace holds saved records one after the other: the one at the beginning, then
 the one after each row, a part row at the end included. ticks is none, or the
 first and the last tick count to draw; counts go from 4,294,967,295 to 0, and
-so may a range. The same inputs give the same pictures. Imported by door.py;
-it is no program.
+so may a range. tell gets how many pictures are drawn, and of how many. The
+same inputs give the same pictures. Imported by running.py; it is no program.
 """
 
 from __future__ import annotations
@@ -16,7 +16,7 @@ from __future__ import annotations
 from typing import List, Optional, Sequence, Tuple
 
 from borrowed import TICK_COUNT_ROUND, Answer
-from drawing import Run, drawn, span
+from drawing import Run, Tell, drawn, span, tell_nobody
 from history import History, cut, history_of
 from streams import Trouble
 
@@ -68,7 +68,7 @@ def moments_of(
 
 def pictures(
     lines: Sequence[str], answers: Sequence[Answer], trace: bytes,
-    ticks: Optional[Tuple[int, int]],
+    ticks: Optional[Tuple[int, int]], tell: Tell = tell_nobody,
 ) -> List[str]:
     """One SVG text for each picture of a run."""
     history = history_of(trace)
@@ -80,4 +80,4 @@ def pictures(
     return drawn(Run(
         cut(history, begin, end), led[begin:end], numbers[begin:end], begin,
         whole, end - begin == len(led),
-    ))
+    ), tell)
