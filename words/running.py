@@ -245,7 +245,9 @@ def numbered(name: str, count: int) -> List[str]:
 def is_picture(name: str) -> bool:
     """Whether a file is a picture that was drawn here."""
     begins = drawing.BEGINS.encode("ascii")
-    with contextlib.suppress(OSError, ValueError):
+    if not os.path.isfile(name):
+        return False
+    with contextlib.suppress(OSError):
         with open(name, "rb") as stream:
             return stream.read(len(begins)) == begins
     return False

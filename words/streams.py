@@ -81,16 +81,16 @@ def read_some(name: str, file: int, size: int = BLOCK) -> bytes:
         raise file_trouble(name, "read", error) from error
 
 
-def read_to(name: str, file: int, most: Optional[int] = None) -> bytes:
-    """All bytes of an input, or its first ones."""
+def read_to(name: str, file: int, most: int) -> bytes:
+    """The first bytes of an input, or all of them."""
     parts: List[bytes] = []
     left = most
-    while left is None or left > 0:
-        part = read_some(name, file, BLOCK if left is None else left)
+    while left > 0:
+        part = read_some(name, file, min(left, BLOCK))
         if not part:
             break
         parts.append(part)
-        left = None if left is None else left - len(part)
+        left -= len(part)
     return b"".join(parts)
 
 

@@ -309,8 +309,9 @@ class Outputs(Folder):
         ):
             Path("one.svg").write_bytes(data)
             self.assertEqual(running.is_picture("one.svg"), is_one)
-        self.assertFalse(running.is_picture("two.svg"))
-        self.assertFalse(running.is_picture("."))
+        os.mkfifo("pipe.svg")
+        for name in ("two.svg", ".", "pipe.svg"):
+            self.assertFalse(running.is_picture(name), name)
 
     def test_dropped_once(self) -> None:
         """An output that was never begun has nothing to finish."""
