@@ -23,7 +23,7 @@ from typing import Callable, Dict, Iterator, List, Set, Tuple
 from held import find_toolchain
 from trying import (
     BOOT, RUN, RUN_TEXT, SECONDS, TOP, Done, Terminal, Trial, comes_true,
-    door, hear_interrupts, not_done, one_line, put,
+    door, hear_signals, not_done, one_line, put,
 )
 
 # A prover that takes a while, so that two words meet. Like the real one it
@@ -361,7 +361,7 @@ def begin_here(
         [str(copy.top / "tehuamozo"), *words], cwd=copy.room, stderr=stderr,
         stdin=subprocess.DEVNULL, stdout=subprocess.PIPE,
         env=copy.environment(), start_new_session=True,
-        preexec_fn=hear_interrupts,
+        preexec_fn=hear_signals,
     )
 
 

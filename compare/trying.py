@@ -110,9 +110,11 @@ def second_text(*words: str) -> bytes:
     ).stdout
 
 
-def hear_interrupts() -> None:
-    """What a job in the background is started with, a user's word is not."""
-    signal.signal(signal.SIGINT, signal.SIG_DFL)
+def hear_signals() -> None:
+    """Whatever ignores signals, a job in the background or nohup, starts the
+    gate: a user's word hears them."""
+    for number in (signal.SIGINT, signal.SIGTERM, signal.SIGHUP):
+        signal.signal(number, signal.SIG_DFL)
 
 
 def begin(
@@ -124,7 +126,7 @@ def begin(
     return subprocess.Popen(
         [str(DOOR), *words], cwd=room, stdin=subprocess.DEVNULL,
         stdout=stdout, stderr=stderr, start_new_session=True,
-        preexec_fn=hear_interrupts, env=environment,
+        preexec_fn=hear_signals, env=environment,
     )
 
 
