@@ -31,7 +31,7 @@ ROW = 8
 KINDS = ("one-shot", "periodic")
 LARGEST_BYTE, LARGEST_NUMBER = 255, 4_294_967_295
 # What `tick COUNT` and `repeat` make is in no file, so a slip in a number
-# could fill the memory. Rows that have lines of their own are never too many.
+# could fill the memory. Rows that have lines of their own fill the text first.
 MOST_ROWS = 1_000_000
 HEXADECIMAL = frozenset(string.hexdigits)
 SEE_CALLS = "see `./tehuamozo help calls`"

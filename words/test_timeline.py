@@ -1026,6 +1026,13 @@ class Tall(unittest.TestCase):
         )
         self.assertEqual(columns, 6_001)
 
+    def test_tells(self) -> None:
+        """How many pictures are drawn is told before each, and of how many."""
+        told: List[Tuple[int, int]] = []
+        pictures(*self.run_here, None, lambda n, all_: told.append((n, all_)))
+        count = len(self.roots)
+        self.assertEqual(told, [(index, count) for index in range(count)])
+
     def test_range(self) -> None:
         """A range of a long run is one picture if it is short."""
         root, = all_drawn(self.run_here, (4_000, 4_050))

@@ -63,7 +63,8 @@ MADE: Mapping[int, str] = {
 }
 AT_BOOT = (1, 0, 0, 0)
 
-# A text is held in memory, many times its size; this is 10 million lines.
+# A text is held in memory, many times its size; so many bytes are more than
+# 13 million lines of `tick`.
 MOST_BYTES = 67_108_864
 MOST_TIMES = 1_000_000
 # Twenty repeats of two rounds are more rows than a text makes.
