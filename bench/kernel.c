@@ -213,6 +213,12 @@ static void unhang(struct kernel *k, uint8_t id)
     k->spoke[k->timer[id].spoke] &= ~(UINT32_C(1) << id);
 }
 
+/* The ticks left to a timer that runs. */
+static uint16_t left_to(const struct kernel *k, const struct timer *t)
+{
+    return (uint16_t)(t->turns * SPOKES + (t->spoke - 1 - k->tick_count) % SPOKES + 1);
+}
+
 /* Stops a timer that runs. */
 static void stop(struct kernel *k, uint8_t id)
 {
@@ -268,7 +274,7 @@ static bool is_priority(uint8_t number)
 }
 
 /* Call 2. */
-static uint8_t call_create_thread(struct kernel *k, uint8_t base, uint8_t *given)
+static uint8_t call_create_thread(struct kernel *k, uint8_t base, uint16_t *given)
 {
     if (!is_priority(base))
         return OUT_OF_RANGE;
@@ -279,7 +285,7 @@ static uint8_t call_create_thread(struct kernel *k, uint8_t base, uint8_t *given
 }
 
 /* Call 3. */
-static uint8_t call_create_mutex(struct kernel *k, uint8_t ceiling, uint8_t *given)
+static uint8_t call_create_mutex(struct kernel *k, uint8_t ceiling, uint16_t *given)
 {
     if (!is_priority(ceiling))
         return OUT_OF_RANGE;
@@ -291,7 +297,7 @@ static uint8_t call_create_mutex(struct kernel *k, uint8_t ceiling, uint8_t *giv
 }
 
 /* Call 4. */
-static uint8_t call_create_condition(struct kernel *k, uint8_t *given)
+static uint8_t call_create_condition(struct kernel *k, uint16_t *given)
 {
     if (k->conditions == CONDITIONS)
         return TABLE_FULL;
@@ -301,7 +307,7 @@ static uint8_t call_create_condition(struct kernel *k, uint8_t *given)
 }
 
 /* Call 5. */
-static uint8_t call_create_timer(struct kernel *k, uint8_t *given)
+static uint8_t call_create_timer(struct kernel *k, uint16_t *given)
 {
     if (k->timers == TIMERS)
         return TABLE_FULL;
@@ -378,7 +384,7 @@ static uint8_t call_wait(struct kernel *k, uint8_t condition, uint8_t mutex)
 }
 
 /* Call 9. */
-static uint8_t call_signal(struct kernel *k, uint8_t condition, uint8_t *given)
+static uint8_t call_signal(struct kernel *k, uint8_t condition, uint16_t *given)
 {
     if (condition >= k->conditions)
         return NO_SUCH_ID;
@@ -387,7 +393,7 @@ static uint8_t call_signal(struct kernel *k, uint8_t condition, uint8_t *given)
 }
 
 /* Call 10. */
-static uint8_t call_broadcast(struct kernel *k, uint8_t condition, uint8_t *given)
+static uint8_t call_broadcast(struct kernel *k, uint8_t condition, uint16_t *given)
 {
     uint8_t left = 0;
 
@@ -420,18 +426,19 @@ static uint8_t call_start_timer(struct kernel *k, struct call call)
 }
 
 /* Call 12. */
-static uint8_t call_stop_timer(struct kernel *k, uint8_t timer)
+static uint8_t call_stop_timer(struct kernel *k, uint8_t timer, uint16_t *given)
 {
     if (timer >= k->timers)
         return NO_SUCH_ID;
     if (k->timer[timer].state == NOT_RUNNING)
         return TIMER_STOPPED;
+    *given = left_to(k, &k->timer[timer]);
     stop(k, timer);
     return DONE;
 }
 
 /* Call 13. */
-static uint8_t call_tick(struct kernel *k, uint8_t *given)
+static uint8_t call_tick(struct kernel *k, uint16_t *given)
 {
     uint8_t expired = 0;
     uint32_t rest;
@@ -447,7 +454,7 @@ static uint8_t call_tick(struct kernel *k, uint8_t *given)
 /* ---- the step */
 
 /* Does the call's own work, the stopped kernel's refusal aside; its answer number. */
-static uint8_t perform(struct kernel *k, struct call call, uint8_t *given)
+static uint8_t perform(struct kernel *k, struct call call, uint16_t *given)
 {
     switch (call.code) {
     case START:
@@ -473,7 +480,7 @@ static uint8_t perform(struct kernel *k, struct call call, uint8_t *given)
     case START_TIMER:
         return call_start_timer(k, call);
     case STOP_TIMER:
-        return call_stop_timer(k, call.a);
+        return call_stop_timer(k, call.a, given);
     default:
         return call_tick(k, given);
     }
@@ -482,13 +489,14 @@ static uint8_t perform(struct kernel *k, struct call call, uint8_t *given)
 /* Does a call that decode has passed. */
 void step(struct kernel *k, struct call call, struct answer *answer)
 {
-    uint8_t given = NONE, number = STOPPED;
+    uint16_t given = NONE;
+    uint8_t number = STOPPED;
 
     if (k->started || call.code < ACQUIRE)
         number = perform(k, call, &given);
     if (number == DONE && k->started)
         choose(k, call.code == TICK);
-    *answer = (struct answer){ number, given, k->running };
+    *answer = (struct answer){ .number = number, .given = given, .running = k->running };
 }
 
 /* Takes a row apart into its call; false for a wrong form. */

@@ -1,4 +1,4 @@
-/* The bench kernel of document 01 in plain C, in place: the baseline that the proved kernel is measured against. */
+/* The bench kernel of document 01 and the requests of document 02 that have landed, in plain C, in place: the baseline that the proved kernel is measured against. */
 #ifndef TEHUAMOZO_BENCH_KERNEL_H
 #define TEHUAMOZO_BENCH_KERNEL_H
 
@@ -7,7 +7,7 @@
 
 enum limit { THREADS = 32, PRIORITIES = 16, MUTEXES = 16, CONDITIONS = 16, TIMERS = 32, SPOKES = 64 };
 
-/* IDLE is thread 0; NONE stands where there is no id, no number given and no running thread. */
+/* IDLE is thread 0; NONE stands where there is no id, nothing given and no running thread. */
 enum { IDLE = 0, NONE = 255, ROW = 8 };
 
 enum code {
@@ -32,7 +32,8 @@ struct call {
 };
 
 struct answer {
-    uint8_t number, given, running;
+    uint16_t given;
+    uint8_t number, running;
 };
 
 /* Linked through the threads; first and last mean something only while the queue's bit is in occupied. */

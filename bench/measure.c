@@ -75,6 +75,12 @@ struct tally {
     uint8_t refused;
 };
 
+/* An answer as one number: running has 8 bits and given 16, so that no two answers come to the same. */
+static uint64_t weight(const struct answer *answer)
+{
+    return (uint64_t)answer->number << 24 | (uint64_t)answer->given << 8 | answer->running;
+}
+
 /* Answers the rows in order, as often as asked. */
 static struct tally run_rows(struct kernel *kernel, const struct rows *rows, unsigned long repeats)
 {
@@ -86,7 +92,7 @@ static struct tally run_rows(struct kernel *kernel, const struct rows *rows, uns
         for (i = 0; i < rows->count; i++) {
             struct answer answer;
             step_row(kernel, rows->row[i], &answer);
-            tally.checksum += (uint64_t)answer.number << 16 | (uint64_t)answer.given << 8 | answer.running;
+            tally.checksum += weight(&answer);
             tally.refused |= answer.number;
         }
     }

@@ -15,7 +15,7 @@ import time
 
 HERE = pathlib.Path(__file__).resolve().parent
 SIDES = ("measure", "measure-in-place", "measure-by-value")
-MIXES = ("rotate", "timers", "acquire", "pingpong", "broadcast")
+MIXES = ("rotate", "timers", "acquire", "pingpong", "broadcast", "timeout")
 CALLS = 400_000
 ROUNDS = 5
 WIDTH = 60

@@ -3,9 +3,12 @@
     plain.py [COUNT [SEED]]     300 files and seed 1 unless given
 
 Builds bench/run.c, has the second program make COUNT call files that begin at
-boot, runs both on each and compares their texts byte by byte. The last line is
-`N passed, M failed`; the exit status is 0 only if something ran and M is 0,
-and 2 for wrong use.
+boot, runs both on each and compares their texts byte by byte. Then it builds
+bench/measure.c, and holds the checksum that this prints for each mix of the
+benchmark against the sum over the second program's answers, and so for a loop
+with refused calls, after which it must end with 1. The last line is `N passed,
+M failed`; the exit status is 0 only if something ran and M is 0, and 2 for
+wrong use.
 """
 
 from __future__ import annotations
@@ -16,19 +19,28 @@ from pathlib import Path
 from typing import List, Sequence, Tuple
 
 from held import (
-    TOP, count_passed, generate, in_a_room, numbers_of, run_many, run_program,
-    text_differs,
+    TOP, Done, count_passed, generate, in_a_room, numbers_of, run_many,
+    run_program, text_differs,
 )
 
 USAGE = "usage: plain.py [COUNT [SEED]]"
 FILES = 300
 FLAGS = ("-std=c11", "-O2", "-Wall", "-Wextra", "-Werror")
+ROW, ROUNDS = 8, 20
+# In no mix is a call refused, so this loop shows what the number of an answer
+# counts: stops that give 255 and 256 stand beside stops refused by 14 and 4.
+REFUSED = "refused"
+REFUSED_SETUP = ("02 04", "04", "05", "01")
+REFUSED_LOOP = (
+    "0B 00 00 00 00 E8 03 00", "0C", "0C", "0B 00 00 00 18 E4 03 00", "0C",
+    "0C 01",
+)
 
 
-def build(room: Path) -> Path:
-    """Compile the C program into the room; its path."""
-    program = room / "run"
-    sources = [str(TOP / "bench" / name) for name in ("run.c", "kernel.c")]
+def build(room: Path, name: str) -> Path:
+    """Compile a C program into the room; its path."""
+    program = room / name
+    sources = [str(TOP / "bench" / file) for file in (f"{name}.c", "kernel.c")]
     subprocess.run(["cc", *FLAGS, "-o", str(program), *sources], check=True)
     return program
 
@@ -48,9 +60,72 @@ def judge_file(program: Path, calls: Path) -> str:
     return f"{calls.name}: {wrong}" if wrong else ""
 
 
+def weight(line: bytes) -> int:
+    """An answer as one number: given has 16 bits, and running 8."""
+    _, answer, given, running = map(int, line.split())
+    return answer << 24 | given << 8 | running
+
+
+def sum_wanted(room: Path, setup: bytes, loop: bytes) -> int:
+    """The sum over the second program's answers to the rounds of a loop."""
+    calls, want = room / "mix.calls", room / "mix.want"
+    calls.write_bytes(setup + loop * ROUNDS)
+    run_many([(str(calls), "boot", "-", str(want))], room)
+    lines = want.read_bytes().splitlines()[1:]
+    return sum(map(weight, lines[len(setup) // ROW:]))
+
+
+def sum_differs(done: Done, status: int, wanted: int) -> str:
+    """What is wrong with the end or the checksum of a measurement."""
+    if done.status != status:
+        return f"exit status {done.status}, and {status} is wanted"
+    if done.text.endswith(b", checksum %d\n" % wanted):
+        return ""
+    return f"{done.text!r}, and checksum {wanted} is wanted"
+
+
+def judge_mix(program: Path, room: Path, setup: Path) -> str:
+    """What is wrong with the measurement of a mix, or nothing."""
+    loop = setup.with_name(setup.name.replace(".setup.", ".loop."))
+    done = run_program([str(program), str(setup), str(loop), str(ROUNDS)])
+    wanted = sum_wanted(room, setup.read_bytes(), loop.read_bytes())
+    status = 1 if setup.name.startswith(REFUSED) else 0
+    wrong = sum_differs(done, status, wanted)
+    return f"{setup.name}: {wrong}" if wrong else ""
+
+
+def rows_of(texts: Sequence[str]) -> bytes:
+    """Rows in hexadecimal, without the zeros that they end in."""
+    return b"".join(bytes.fromhex(text).ljust(ROW, b"\0") for text in texts)
+
+
+def write_mixes(folder: Path) -> List[Path]:
+    """Write the mixes and the loop with refused calls; the setups."""
+    script = str(TOP / "bench" / "mixes.py")
+    subprocess.run(
+        [sys.executable, script, "--write", str(folder)], check=True
+    )
+    (folder / f"{REFUSED}.setup.bin").write_bytes(rows_of(REFUSED_SETUP))
+    (folder / f"{REFUSED}.loop.bin").write_bytes(rows_of(REFUSED_LOOP))
+    return sorted(folder.glob("*.setup.bin"))
+
+
+def compare_mixes(room: Path) -> Tuple[int, int]:
+    """Hold the checksum of each mix; how many passed and failed."""
+    program = build(room, "measure")
+    setups = write_mixes(room / "mixes")
+    wrong = [judge_mix(program, room, setup) for setup in setups]
+    for complaint in filter(None, wrong):
+        print(complaint)
+    names = ", ".join(setup.name.split(".")[0] for setup in setups)
+    print(f"checksums of the benchmark held: {names}")
+    failed = sum(map(bool, wrong))
+    return len(setups) - failed, failed
+
+
 def compare(room: Path, count: int, seed: int) -> Tuple[int, int]:
     """Build, generate, run and compare; how many passed and failed."""
-    program = build(room)
+    program = build(room, "run")
     files = files_from_boot(room, seed, count)
     run_many((
         (str(path), "boot", "-", str(path.with_suffix(".want")))
@@ -59,8 +134,9 @@ def compare(room: Path, count: int, seed: int) -> Tuple[int, int]:
     rows = sum((path.stat().st_size + 7) // 8 for path in files)
     print(f"seed {seed}: {len(files)} files from boot, {rows} rows")
     passed = count_passed(lambda path: judge_file(program, path), files)
+    mixes_passed, mixes_failed = compare_mixes(room)
     # A file that was asked for and not made has failed as well.
-    return passed, count - passed
+    return passed + mixes_passed, count - passed + mixes_failed
 
 
 def main(words: Sequence[str]) -> int:

@@ -8,10 +8,11 @@ a start: a record, sound or damaged; the others begin at boot. Both programs
 run on each, and their texts and their last records are compared byte by byte;
 where the start is refused, neither may write a last record. How often each
 answer number was met is printed, and each that a run can give must be met; so
-must refused starts, and files of more rows than the program reads at a time,
-from boot and from records: a small COUNT fails by that. The last line is
-`N passed, M failed`; the exit status is 0 only if something ran and M is 0,
-and 2 for wrong use.
+must stops that give 1, 255, 256, 257 and 65,535, stops of timers that ran
+across the wrap of the tick count, refused starts, and files of more rows than
+the program reads at a time, from boot and from records: a small COUNT fails by
+that. The last line is `N passed, M failed`; the exit status is 0 only if
+something ran and M is 0, and 2 for wrong use.
 """
 
 from __future__ import annotations
@@ -20,7 +21,7 @@ import sys
 from collections import Counter
 from pathlib import Path
 from typing import Counter as CounterOf
-from typing import List, NamedTuple, Sequence, Tuple
+from typing import Dict, Iterator, List, NamedTuple, Sequence, Tuple
 
 from held import (
     answers_in, command_of, compare_program, count_passed, generate,
@@ -34,6 +35,12 @@ CANNOT_BE_MET = 16
 ANSWERS = [number for number in range(18) if number != CANNOT_BE_MET]
 # How many files must be answered more rows than these; 1,024 are read at once.
 LENGTHS = ((1_024, 60), (20_000, 5))
+# What some stop must give: both ends, 255, which a refusal gives as well, and
+# the first numbers that need a second byte.
+GIVEN_BY_STOPS = (1, 255, 256, 257, 65_535)
+ROW, START_TIMER, STOP_TIMER, TICK = 8, 11, 12, 13
+# Where a record has its tick count, and where the count wraps.
+TICK_COUNT, WRAP = slice(20, 24), 4_294_967_296
 
 
 class Run(NamedTuple):
@@ -45,6 +52,13 @@ class Run(NamedTuple):
     def beside(self, suffix: str) -> Path:
         """A file that belongs to this run."""
         return self.calls.with_suffix(suffix)
+
+
+class Stop(NamedTuple):
+    """An accepted stop: what it gives, and if its timer ran across a wrap."""
+
+    given: int
+    across: bool
 
 
 def make_runs(room: Path, seed: int, count: int) -> List[Run]:
@@ -103,6 +117,55 @@ def count_missing(runs: Sequence[Run]) -> int:
     return len(missing)
 
 
+def accepted_in(run: Run) -> Iterator[Tuple[int, int, int]]:
+    """Code, a and *given* of each row that the second program accepted."""
+    rows = run.calls.read_bytes()
+    lines = run.beside(".want").read_bytes().splitlines()[1:]
+    for offset, line in zip(range(0, len(rows), ROW), lines):
+        _, answer, given, _ = map(int, line.split())
+        if answer == 0:
+            yield rows[offset], rows[offset + 1], given
+
+
+def tick_count_of(run: Run) -> int:
+    """The tick count that a run begins with."""
+    if run.start == "boot":
+        return 0
+    return int.from_bytes(Path(run.start).read_bytes()[TICK_COUNT], "little")
+
+
+def stops_in(run: Run) -> List[Stop]:
+    """The accepted stops of a run; a timer never started ran in its start."""
+    first = count = tick_count_of(run)
+    begun: Dict[int, int] = {}
+    stops: List[Stop] = []
+    for code, timer, given in accepted_in(run):
+        if code == TICK:
+            count += 1
+        elif code == START_TIMER:
+            begun[timer] = count
+        elif code == STOP_TIMER:
+            across = begun.get(timer, first) // WRAP < count // WRAP
+            stops.append(Stop(given, across))
+    return stops
+
+
+def count_unmet_stops(runs: Sequence[Run]) -> int:
+    """Print what stops gave; how many that are wanted were not met."""
+    stops = [stop for run in runs for stop in stops_in(run)]
+    given = Counter(stop.given for stop in stops)
+    across = sum(stop.across for stop in stops)
+    counts = [f"{left} {given[left]} times" for left in GIVEN_BY_STOPS]
+    print(f"accepted stops: {len(stops)}; they gave", ", ".join(counts))
+    print(f"stops of timers that ran across the count's wrap: {across}")
+    missing = [f"given {left}" for left in GIVEN_BY_STOPS if not given[left]]
+    if not across:
+        missing.append("a stop across the count's wrap")
+    if missing:
+        print("not met, and counted as failed:", ", ".join(missing))
+    return len(missing)
+
+
 def rows_answered(run: Run) -> int:
     """How many rows the second program answered; none of a refused start."""
     return max(0, run.beside(".want").read_bytes().count(b"\n") - 1)
@@ -142,7 +205,8 @@ def compare(
     boot = sum(run.start == "boot" for run in runs)
     records = len(runs) - boot
     print(f"seed {seed}: {boot} files from boot, {records} from records")
-    missing = count_missing(runs) + count_short(runs)
+    missing = count_missing(runs) + count_unmet_stops(runs)
+    missing += count_short(runs)
     passed = count_passed(lambda run: judge_run(command, run), runs)
     # A file that was asked for and not made has failed as well.
     return passed, count - passed + missing

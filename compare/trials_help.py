@@ -75,12 +75,16 @@ def helps_on_calls(room: Path) -> bool:
 
 
 def helps_on_answers(room: Path) -> bool:
-    """help answers has a line for each number, in document 01's words."""
+    """help answers has a line for each number, in document 01's words, and
+    what is given."""
     done = door(room, "help", "answers")
     lines = done.text.decode().splitlines()
-    return done.status == 0 and len(lines) == len(ANSWERS) and all(
+    numbers = lines[:len(ANSWERS)]
+    return done.status == 0 and all(
         line.split()[0] == str(number) and words in line
-        for number, (line, words) in enumerate(zip(lines, ANSWERS))
+        for number, (line, words) in enumerate(zip(numbers, ANSWERS))
+    ) and lines[len(ANSWERS):][:2] == ["", "given is:"] and any(
+        "stop timer" in line and "1 to 65535" in line for line in lines
     )
 
 

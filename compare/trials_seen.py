@@ -111,6 +111,27 @@ def draws(room: Path) -> bool:
     return done == [Done(0, b"", b"")] * 2 and one == two
 
 
+def tells_what_was_left(room: Path) -> bool:
+    """explain and timeline say what was left of a timer that was stopped,
+    and of one that had expired that it is refused."""
+    calls = example("timeout", "calls.txt")
+    said = door(room, "explain", calls)
+    lines = said.text.decode()
+    done = door(room, "timeline", calls, "-o", "one.svg")
+    texts = {
+        part.text for part in ElementTree.parse(room / "one.svg").iter()
+        if part.tag.endswith("text")
+    }
+    left = ("288 ticks left", "255 ticks left", "1 tick left")
+    return (
+        said.status == 0 and done == Done(0, b"", b"")
+        and all(f"  done, {words}  " in lines for words in left)
+        and "  refused 14: the timer is stopped  " in lines
+        and {f"stop timer limit, {words}" for words in left} <= texts
+        and "stop timer limit: 14" in texts
+    )
+
+
 def draws_from_record(room: Path) -> bool:
     """A timeline begins at START: its tick counts are on the axis."""
     calls = example("wrap", "calls.rows")
@@ -220,6 +241,7 @@ TRIALS: List[Trial] = [
     ("explain", explains),
     ("explain from a record", explains_from_record),
     ("timeline", draws),
+    ("what was left of a stopped timer", tells_what_was_left),
     ("a timeline from a record", draws_from_record),
     ("a timeline of some ticks", draws_some_ticks),
     ("a timeline with refused calls", draws_refusals),

@@ -5,7 +5,8 @@
 
 Each name in backticks in the tables before the last has to exist in the crate that is named before it: a definition in specs/, a theorem in proofs/, a
 function in src/, a wrong program in must-fail/, or a file. Each public function of each library has to stand in the last table with its promise as
-the code has it and with at least two wrong programs that the promise rules out, and no other function. No crate cites more of the wheel than its promise. Functions of the libraries `files` and `stored` speak to the system, which decides their result where no equation is promised.
+the code has it and with at least two wrong programs that the promise rules out, and no other function. Each wrong definition stands in some table, and each
+request of document 02 that docs/CHANGES.md has a note of has a table of its own. No crate cites more of the wheel than its promise. Functions of the libraries `files` and `stored` speak to the system, which decides their result where no equation is promised.
 """
 
 from __future__ import annotations
@@ -133,6 +134,17 @@ def ruled_out(function: Function, by: str) -> str:
     return ", ".join(found) if len(found) >= 2 else ""
 
 
+def check_wrong_definitions(text: str) -> List[Tuple[str, bool]]:
+    """Each wrong definition, and whether some table names it."""
+    return [("in a table: %s `%s`" % (wrong.crate, wrong.name), "`%s`" % wrong.name in text) for wrong in WRONGS if not wrong.function]
+
+
+def check_requests(text: str) -> List[Tuple[str, bool]]:
+    """Each request of document 02 that has landed, and whether it has its table."""
+    landed = re.findall(r"^## (L\d+): ", (TOP / "docs" / "CHANGES.md").read_text(encoding="utf-8"), re.M)
+    return [("a table of document 02, %s" % name, "\n## Document 02, %s: " % name in text) for name in landed]
+
+
 def check_wheel() -> List[Tuple[str, bool]]:
     """Each line outside the wheel that cites something of it, and whether that belongs to its promise."""
     results: List[Tuple[str, bool]] = []
@@ -171,7 +183,7 @@ def main(arguments: List[str]) -> int:
         print("\n".join(table()))
         return 0
     text = PAGE.read_text(encoding="utf-8")
-    results: Dict[str, bool] = dict(check_names(text) + check_wheel())
+    results: Dict[str, bool] = dict(check_names(text) + check_wrong_definitions(text) + check_requests(text) + check_wheel())
     held = set(text.splitlines())
     for line in table()[2:]:
         results[line] = line in held and "|  |" not in line

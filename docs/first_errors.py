@@ -17,16 +17,18 @@ from typing import Iterator, List, Tuple
 
 from edits import TOP, Wrong, wrongs
 
-# How the prover says that a name or a field is not there, that a file cannot be read, or that a proof stands on one that was refused.
-NO_FACT = re.compile(r"has no (field )?`|is not in scope|cannot be named|can be named|no such|unknown-|not found|was not admitted")
+# How the prover says that a name or a field is not there, that a file cannot be read, that a proof stands on one that was refused, or that it gave up.
+NO_FACT = re.compile(r"has no (field )?`|is not in scope|cannot be named|can be named|no such|unknown-|not found|was not admitted|met a bound")
 ERROR = re.compile(r"^(\S+?):(\d+):\d+: error: (.*)$")
 NOTE = re.compile(r"^note: (\S+?):(\d+):\d+: (.*)$")
 
 
 def errors(log: str) -> Iterator[Tuple[str, int, str]]:
     """File, line and words of each error of a log: those of written proofs, then those of proofs that the prover made."""
+    # A long error goes on in lines that begin with two blanks.
+    lines = log.replace("\n  ", " ").splitlines()
     for pattern in (ERROR, NOTE):
-        for line in log.splitlines():
+        for line in lines:
             found = pattern.match(line)
             if found:
                 yield found.group(1), int(found.group(2)), found.group(3)
@@ -53,9 +55,9 @@ def is_of(room: Path, function: str, place: str, line: int) -> bool:
     return place.startswith("src/") and line in lines_of(room / place, function)
 
 
-def judge(wrong: Wrong) -> Tuple[str, bool]:
-    """One line on a wrong program, and whether it is refused at a fact."""
-    room = TOP / "target" / "must-fail" / wrong.crate / wrong.edit
+def judge(wrong: Wrong, tried: Path) -> Tuple[str, bool]:
+    """One line on a wrong program, by what the prover left where edits were tried, and whether it is refused at a fact."""
+    room = tried / wrong.crate / wrong.edit
     title = f"{wrong.crate}/{wrong.name}" + (f" in {wrong.function}" if wrong.function else "")
     if not (room / ".log").is_file():
         return f"{title}: not tried", False
@@ -69,7 +71,8 @@ def judge(wrong: Wrong) -> Tuple[str, bool]:
 
 def main(names: List[str]) -> int:
     """List what was asked for; the exit status."""
-    results = [judge(wrong) for wrong in wrongs() if not names or wrong.crate in names]
+    tried = TOP / "target" / "must-fail"
+    results = [judge(wrong, tried) for wrong in wrongs() if not names or wrong.crate in names]
     for line, _ in results:
         print(line)
     passed = sum(good for _, good in results)

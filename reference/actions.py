@@ -14,10 +14,10 @@ from chance import Chance
 from rows import NAMED, make_row
 from words import (
     ACQUIRE, BROADCAST, CONDITION_VARIABLES, CREATE_CONDITION_VARIABLE,
-    CREATE_MUTEX, CREATE_THREAD, CREATE_TIMER, IDLE, LONGEST_LENGTH,
-    MICROSECONDS_PER_TICK, MUTEXES, NONE, RELEASE, SIGNAL, START, START_TIMER,
-    STOP_TIMER, THREADS, TICK, TIMERS, TIMER_STOPPED, WAIT, WAITS_FOR_MUTEX,
-    WAITS_ON_CONDITION_VARIABLE, Call,
+    CREATE_MUTEX, CREATE_THREAD, CREATE_TIMER, IDLE, LONGEST_LENGTH, MUTEXES,
+    NONE, RELEASE, SIGNAL, START, START_TIMER, STOP_TIMER, THREADS, TICK,
+    TIMERS, TIMER_STOPPED, WAIT, WAITS_FOR_MUTEX, WAITS_ON_CONDITION_VARIABLE,
+    Call, delay_of,
 )
 
 
@@ -260,13 +260,17 @@ def broadcast_any(place: Place) -> Optional[bytes]:
     return call(BROADCAST, some_id(place, len(place.book.condition_variables)))
 
 
+def some_delay_of(place: Place, length: int) -> int:
+    """A delay of this length, whole or with a rest."""
+    return delay_of(length, place.chance.pick((0, 1, 500, 999)))
+
+
 def microseconds(place: Place) -> int:
     """A delay around the lengths at which something changes."""
     length = place.chance.pick(LENGTHS)
     if place.chance.percent(20):
         length = place.chance.between(1, 200)
-    rest = place.chance.pick((0, 1, 500, 999))
-    return length * MICROSECONDS_PER_TICK + rest
+    return some_delay_of(place, length)
 
 
 def timers_in(place: Place, stopped: bool) -> List[int]:
@@ -277,16 +281,22 @@ def timers_in(place: Place, stopped: bool) -> List[int]:
     ]
 
 
-def start_timer_on(
-    place: Place, found: List[int], delay: int
-) -> Optional[bytes]:
-    """Start one of these timers, mostly where someone waits."""
-    if not found:
-        return None
+def some_target(place: Place) -> int:
+    """A condition variable for a timer, mostly one where someone waits."""
     waited = waited_on(place)
     target = some_id(place, len(place.book.condition_variables))
     if waited and place.chance.percent(70):
         target = place.chance.pick(waited)
+    return target
+
+
+def start_timer_on(
+    place: Place, found: List[int], delay: int
+) -> Optional[bytes]:
+    """Start one of these timers."""
+    if not found:
+        return None
+    target = some_target(place)
     return call(
         START_TIMER, place.chance.pick(found), target, place.chance.below(2),
         delay,
@@ -305,7 +315,7 @@ def start_timer_again(place: Place) -> Optional[bytes]:
 
 def start_timer_outside(place: Place) -> Optional[bytes]:
     """Start a timer with a length outside its limits."""
-    beyond = (LONGEST_LENGTH + 1) * MICROSECONDS_PER_TICK
+    beyond = delay_of(LONGEST_LENGTH + 1)
     delay = place.chance.pick((0, 1, 999, beyond, beyond + 1, 0xFFFFFFFF))
     return start_timer_on(
         place, list(range(len(place.book.timers))), delay
@@ -315,6 +325,11 @@ def start_timer_outside(place: Place) -> Optional[bytes]:
 def stop_timer_running(place: Place) -> Optional[bytes]:
     """Stop a timer that runs."""
     return one_of(place, STOP_TIMER, timers_in(place, False))
+
+
+def stop_timer_stopped(place: Place) -> Optional[bytes]:
+    """Stop a timer that is stopped."""
+    return one_of(place, STOP_TIMER, timers_in(place, True))
 
 
 def stop_timer_any(place: Place) -> Optional[bytes]:
@@ -335,7 +350,7 @@ def tick_burst(place: Place) -> Optional[bytes]:
 def tick_until_due(place: Place) -> Optional[bytes]:
     """Ticks up to the next timer due, if that is near."""
     left = [
-        timer.due - place.book.tick_count for timer in place.book.timers
+        place.book.left(timer) for timer in place.book.timers
         if timer.state != TIMER_STOPPED
     ]
     if not left or min(left) > LONGEST_BURST:

@@ -141,6 +141,10 @@ class Book:
             if entry.owner == identity
         ]
 
+    def left(self, timer: Timer) -> int:
+        """The ticks left of a timer that runs."""
+        return timer.due - self.tick_count
+
 
 # The refusals. Each says whether its answer number applies to a call; it may
 # rely on those checked before it, so on ids that exist and a running caller.
@@ -417,9 +421,10 @@ def start_timer(book: Book, call: Call) -> int:
 
 
 def stop_timer(book: Book, call: Call) -> int:
-    """12: a stopped timer keeps nothing of its run."""
+    """12: given is the ticks left; the timer keeps nothing of its run."""
+    left = book.left(book.timers[call.a])
     book.timers[call.a] = Timer()
-    return NONE
+    return left
 
 
 def tick(book: Book, call: Call) -> int:

@@ -6,7 +6,7 @@ a large set are the files of a small one.
 
 from __future__ import annotations
 
-from typing import List, NamedTuple, Optional, Tuple
+from typing import Dict, List, NamedTuple, Optional, Tuple
 
 from actions import call, start_timer_on, timers_in
 from book import Book
@@ -20,8 +20,9 @@ from make_records import (
 from record import load
 from rows import ROW
 from rules import FORM_NAMES, SOUND_NAMES, all_broken_sound, broken_rule
+from stops import Case, StopsWalk, lay_out_stops, record_before_stops
 from walks import TASTES, Walk
-from words import LONGEST_LENGTH, MICROSECONDS_PER_TICK, TICK, Answer
+from words import LONGEST_LENGTH, TICK, Answer, delay_of
 
 CALLS_PURPOSE, RECORDS_PURPOSE = 1, 2
 RULE_NAMES: Tuple[str, ...] = FORM_NAMES + SOUND_NAMES
@@ -40,6 +41,9 @@ LONG_LENGTHS = (65_535, 65_535, 65_534, 65_473, 65_472, 32_768, 4_096)
 # record.
 MANY_EVERY, MANY_AT, MANY_ROWS = 25, 24, (1_025, 2_500)
 FAR_EVERY, FAR_AT, FAR_ROWS = 400, 250, (20_001, 22_000)
+
+# Files made for stops, by turns from boot and from a record.
+STOPS_EVERY, STOPS_AT = 20, 12
 
 
 class CallFile(NamedTuple):
@@ -128,7 +132,7 @@ def long_walk(chance: Chance) -> Walk:
     walk.begin()
     for length in LONG_LENGTHS:
         walk.do(start_timer_on(
-            walk, timers_in(walk, True), length * MICROSECONDS_PER_TICK
+            walk, timers_in(walk, True), delay_of(length)
         ) or b"")
     for _ in range(LONG_PARTS):
         walk.do(call(TICK) * (LONGEST_LENGTH // LONG_PARTS + 1))
@@ -154,12 +158,29 @@ def some_rows(chance: Chance, index: int) -> Optional[int]:
     return chance.pick((0, 40, 150, 300, 400, chance.below(500)))
 
 
+def stops_file(chance: Chance, seed: int, index: int) -> CallFile:
+    """A call file that meets all cases of a stop."""
+    start: Optional[bytes] = None
+    loaded: Dict[int, Case] = {}
+    if index // STOPS_EVERY % 2 == 1:
+        record = record_before_stops(chance, seed)
+        loaded = lay_out_stops(chance, record)
+        start = bytes_of(record)
+    walk = StopsWalk(chance, Book() if start is None else load(start)[1])
+    if start is None:
+        walk.begin()
+    walk.go_through(loaded)
+    return CallFile(bytes(walk.rows), start, walk.answers)
+
+
 def make_call_file(seed: int, index: int) -> CallFile:
     """The call file of this index, with its start if it has one."""
     chance = chance_for(seed, CALLS_PURPOSE, index)
     if index % LONG_EVERY == LONG_EVERY // 2:
         walk = long_walk(chance)
         return CallFile(bytes(walk.rows), None, walk.answers)
+    if index % STOPS_EVERY == STOPS_AT:
+        return stops_file(chance, seed, index)
     if index % FAR_EVERY == FAR_AT:
         start = far_start(chance, seed, index)
     else:

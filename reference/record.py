@@ -67,8 +67,7 @@ def timer_entry(book: Book, timer: Timer) -> TimerEntry:
             timer.state, timer.condition_variable, timer.length, 0
         )
     return TimerEntry(
-        timer.state, timer.condition_variable, timer.length,
-        timer.due - book.tick_count,
+        timer.state, timer.condition_variable, timer.length, book.left(timer)
     )
 
 

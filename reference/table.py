@@ -3,7 +3,8 @@
 Rows and records are written in hexadecimal; the zeros a row ends in are left
 out. A step is a row with the three numbers of its answer. A fact is something
 the state has to show at that point. Every number was worked out by hand from
-document 01; where it leaves the way to a situation open, the shortest is used.
+document 01, and what a stop gives from request L2 of document 02; where they
+leave the way to a situation open, the shortest is used.
 """
 
 from __future__ import annotations
@@ -104,10 +105,10 @@ EXAMPLES: Tuple[Example, ...] = (
         Step("0B 00 00 00 E7 03", (6, 255, 0)),
         Step("0B 00 00 00 E8 03", (0, 255, 0)),
         Fact("length", 0, (1,)),
-        Step("0C 00", (0, 255, 0)),
+        Step("0C 00", (0, 1, 0)),
         Step("0B 00 00 00 FF FF E7 03", (0, 255, 0)),
         Fact("length", 0, (65_535,)),
-        Step("0C 00", (0, 255, 0)),
+        Step("0C 00", (0, 65_535, 0)),
         Step("0B 00 00 00 00 00 E8 03", (6, 255, 0)),
     )),
     Example("E5", LAST_TICK_COUNT, (

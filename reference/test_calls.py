@@ -1,7 +1,8 @@
 """Tests of the thirteen calls, their refusals and the rule of three.
 
 Each test plays a short scene; every expected number was worked out by hand
-from document 01 and the readings of its open points.
+from document 01, request L2 of document 02 and the readings of their open
+points.
 """
 
 from __future__ import annotations
@@ -56,6 +57,14 @@ class Scene(unittest.TestCase):
         if answer[0] != 0:
             self.assertEqual(save(self.book), before)
         self.assertIsNone(broken_rule(save(self.book)))
+
+    def ticks(self, given: int, running: int, count: int) -> None:
+        """So many ticks with the same answer."""
+        for _ in range(count):
+            self.assertEqual(
+                tuple(answer_row(self.book, make_row(Call(TICK)))),
+                (0, given, running),
+            )
 
     def fact(self, what: str, where: int, *values: int) -> None:
         """Compare something the book shows."""
@@ -198,7 +207,7 @@ class Refusals(Scene):
         self.expect((0, 0, 0), SIGNAL, 0)
         self.expect((0, 0, 0), BROADCAST, 0)
         self.expect((0, 255, 0), START_TIMER, 0, 0, 1, MILLISECOND)
-        self.expect((0, 255, 0), STOP_TIMER, 0)
+        self.expect((0, 1, 0), STOP_TIMER, 0)
 
     def test_above_ceiling_on_busy_mutex(self) -> None:
         """8 is given on a busy mutex too, before any waiting."""
@@ -253,7 +262,7 @@ class Refusals(Scene):
         self.expect((14, 255, 0), STOP_TIMER, 0)
         self.expect((0, 255, 0), START_TIMER, 0, 0, 1, 2 * MILLISECOND)
         self.expect((13, 255, 0), START_TIMER, 0, 0, 1, 2 * MILLISECOND)
-        self.expect((0, 255, 0), STOP_TIMER, 0)
+        self.expect((0, 2, 0), STOP_TIMER, 0)
         self.expect((14, 255, 0), STOP_TIMER, 0)
 
     def test_refused_tick_row_does_not_rotate(self) -> None:
@@ -517,7 +526,6 @@ class ConditionVariables(Scene):
         self.expect((0, 255, 0), WAIT, 0, 0)
         self.expect((0, 1, 2), SIGNAL, 0)
 
-
     def test_equal_waiters_leave_by_arrival(self) -> None:
         """Among equals the earliest waiter leaves, whatever its id."""
         self.prepare((4, 4), (6,), 1)
@@ -532,14 +540,6 @@ class ConditionVariables(Scene):
 
 class Timers(Scene):
     """Timers and ticks."""
-
-    def ticks(self, given: int, running: int, count: int) -> None:
-        """So many ticks with the same answer."""
-        for _ in range(count):
-            self.assertEqual(
-                tuple(answer_row(self.book, make_row(Call(TICK)))),
-                (0, given, running),
-            )
 
     def test_one_shot(self) -> None:
         """A one-shot is due once and then stopped."""
@@ -571,7 +571,7 @@ class Timers(Scene):
         self.expect((0, 255, 0), START)
         self.expect((0, 255, 0), START_TIMER, 0, 0, 1, 2 * MILLISECOND)
         self.ticks(0, 0, 1)
-        self.expect((0, 255, 0), STOP_TIMER, 0)
+        self.expect((0, 1, 0), STOP_TIMER, 0)
         self.ticks(0, 0, 200)
 
     def test_given_counts_timers(self) -> None:
@@ -630,6 +630,267 @@ class Timers(Scene):
         self.ticks(0, 0, 65_534)
         self.ticks(1, 0, 1)
         self.fact("tick count", 0, 65_534)
+
+
+class Stops(Scene):
+    """What an accepted stop gives: the ticks left before it."""
+
+    STOPPED = "00 FF 00 00 00 00 00 00"
+
+    def load(self, count: str, timer: str = STOPPED) -> None:
+        """Begin at a record with this tick count and this timer row."""
+        data = bytes.fromhex(LAST_TICK_COUNT)
+        answer, self.book = load(
+            data[:20] + bytes.fromhex(count) + data[24:32]
+            + bytes.fromhex(timer)
+        )
+        self.assertEqual(answer, 0)
+
+    def timer_runs(self, length: int, kind: int) -> None:
+        """Timer 0 is the only one, and is started while thread 0 runs."""
+        self.book = Book()
+        self.prepare((), (), 1, 1)
+        self.expect((0, 255, 0), START)
+        self.restart(length, kind)
+
+    def restart(self, length: int, kind: int, timer: int = 0) -> None:
+        """Start a stopped timer with this length."""
+        self.expect(
+            (0, 255, 0), START_TIMER, timer, 0, kind, length * MILLISECOND
+        )
+
+    def stop(self, left: int, timer: int = 0) -> None:
+        """A stop that gives this, and leaves a stopped timer of zeros."""
+        self.expect((0, left, 0), STOP_TIMER, timer)
+        row = save(self.book)[32 + 8 * timer:40 + 8 * timer]
+        self.assertEqual(row, bytes.fromhex(self.STOPPED))
+
+    def test_at_once(self) -> None:
+        """With no tick between, all of the length is left."""
+        for length in (1, 2, 64, 254, 255, 256, 257, 65_534, 65_535):
+            for kind in (0, 1):
+                self.timer_runs(length, kind)
+                self.stop(length)
+
+    def test_longest_delay(self) -> None:
+        """The rest of a delay is no tick: 65,535,999 leaves 65,535."""
+        self.timer_runs(1, 0)
+        self.stop(1)
+        self.expect((0, 255, 0), START_TIMER, 0, 0, 1, 65_535_999)
+        self.stop(65_535)
+        self.expect((0, 255, 0), START_TIMER, 0, 0, 0, 255_999)
+        self.stop(255)
+
+    def test_after_ticks(self) -> None:
+        """Each tick takes one away."""
+        for kind in (0, 1):
+            for ticks, left in ((1, 9), (2, 8), (5, 5), (8, 2), (9, 1)):
+                self.timer_runs(10, kind)
+                self.ticks(0, 0, ticks)
+                self.stop(left)
+
+    def test_one_left(self) -> None:
+        """The tick before it is due 1 is left, and it is never due then."""
+        for length in (2, 64, 65, 128, 129, 256):
+            for kind in (0, 1):
+                self.timer_runs(length, kind)
+                self.ticks(0, 0, length - 1)
+                self.stop(1)
+                self.ticks(0, 0, length + 1)
+
+    def test_one_shot_at_its_end(self) -> None:
+        """At the tick it is due a one-shot has stopped: 14, and never 0."""
+        self.timer_runs(3, 0)
+        self.ticks(0, 0, 2)
+        self.ticks(1, 0, 1)
+        self.expect((14, 255, 0), STOP_TIMER, 0)
+
+    def test_periodic_after_expiries(self) -> None:
+        """The length less the ticks since the last expiry is left."""
+        for expiries in (1, 2):
+            for ticks, left in ((0, 5), (1, 4), (3, 2), (4, 1)):
+                self.timer_runs(5, 1)
+                for _ in range(expiries):
+                    self.ticks(0, 0, 4)
+                    self.ticks(1, 0, 1)
+                self.ticks(0, 0, ticks)
+                self.stop(left)
+
+    def test_periodic_of_one_tick(self) -> None:
+        """A periodic timer that is due at each tick has 1 left after each."""
+        self.timer_runs(1, 1)
+        self.ticks(1, 0, 3)
+        self.stop(1)
+
+    def test_about_a_byte(self) -> None:
+        """255, 256 and 257 are given as they are, however they came."""
+        for ticks, left in ((43, 257), (44, 256), (45, 255), (46, 254)):
+            for kind in (0, 1):
+                self.timer_runs(300, kind)
+                self.ticks(0, 0, ticks)
+                self.stop(left)
+        for length, ticks, left in (
+            (257, 0, 257), (257, 1, 256), (257, 2, 255), (256, 0, 256),
+            (256, 1, 255), (255, 0, 255), (255, 1, 254),
+        ):
+            self.timer_runs(length, 1)
+            self.ticks(0, 0, length - 1)
+            self.ticks(1, 0, 1)
+            self.ticks(0, 0, ticks)
+            self.stop(left)
+
+    def test_from_the_longest(self) -> None:
+        """65,535 is left only until the first tick."""
+        self.timer_runs(65_535, 0)
+        self.ticks(0, 0, 1)
+        self.stop(65_534)
+        self.restart(65_535, 1)
+        self.ticks(0, 0, 65_280)
+        self.stop(255)
+
+    def test_across_the_round(self) -> None:
+        """Ticks are counted on where the tick count goes back to 0."""
+        for kind in (0, 1):
+            for ticks, count, left in (
+                (0, 4_294_967_294, 5), (1, 4_294_967_295, 4), (2, 0, 3),
+                (3, 1, 2), (4, 2, 1),
+            ):
+                self.load("FE FF FF FF")
+                self.restart(5, kind)
+                self.ticks(0, 0, ticks)
+                self.fact("tick count", 0, count)
+                self.stop(left)
+
+    def test_long_ones_across_the_round(self) -> None:
+        """The same for 255, 256, 257 and the longest length."""
+        for length, ticks, left in (
+            (65_535, 0, 65_535), (65_535, 1, 65_534), (258, 1, 257),
+            (257, 1, 256), (257, 2, 255), (300, 299, 1),
+        ):
+            self.load("FF FF FF FF")
+            self.restart(length, 0)
+            self.ticks(0, 0, ticks)
+            self.stop(left)
+
+    def test_periodic_across_the_round(self) -> None:
+        """An expiry at count 0 leaves the length; so does one after it."""
+        self.load("FD FF FF FF")
+        self.restart(3, 1)
+        self.ticks(0, 0, 2)
+        self.ticks(1, 0, 1)
+        self.fact("tick count", 0, 0)
+        self.stop(3)
+        self.load("FD FF FF FF")
+        self.restart(2, 1)
+        for given in (0, 1, 0, 1, 0):
+            self.ticks(given, 0, 1)
+        self.fact("tick count", 0, 2)
+        self.stop(1)
+
+    def test_loaded(self) -> None:
+        """What the record has left is given, and not its length."""
+        for timer, left in (
+            ("01 00 01 00 01 00 00 00", 1),
+            ("02 00 2C 01 01 00 00 00", 1),
+            ("01 00 2C 01 FF 00 00 00", 255),
+            ("02 00 2C 01 00 01 00 00", 256),
+            ("01 00 FF FF 01 01 00 00", 257),
+            ("02 00 FF FF FF FF 00 00", 65_535),
+            ("01 00 FF FF FE FF 00 00", 65_534),
+        ):
+            for count in ("00 00 00 00", "FF FF FF FF"):
+                self.load(count, timer)
+                self.stop(left)
+
+    def test_loaded_and_across_the_round(self) -> None:
+        """A timer that ran in the record goes on over the round."""
+        self.load("FF FF FF FF", "01 00 2C 01 02 01 00 00")
+        self.ticks(0, 0, 2)
+        self.fact("tick count", 0, 1)
+        self.stop(256)
+        self.load("FF FF FF FF", "02 00 FF FF 02 00 00 00")
+        self.ticks(0, 0, 1)
+        self.ticks(1, 0, 1)
+        self.fact("tick count", 0, 1)
+        self.stop(65_535)
+
+    def test_refused_stops(self) -> None:
+        """2, 4, 14 and 17 give 255, whatever is left."""
+        self.prepare((), (), 1, 2)
+        self.expect((2, 255, 255), STOP_TIMER, 0)
+        self.expect((2, 255, 255), STOP_TIMER, 2)
+        self.expect((0, 255, 0), START)
+        self.restart(300, 1)
+        for timer in (2, 32, 255):
+            self.expect((4, 255, 0), STOP_TIMER, timer)
+        self.expect((14, 255, 0), STOP_TIMER, 1)
+        for text in ("0c00010000000000", "0c00000001000000", "0c"):
+            self.assertEqual(
+                tuple(answer_row(self.book, bytes.fromhex(text))),
+                (17, 255, 0),
+            )
+        self.stop(300)
+        self.expect((14, 255, 0), STOP_TIMER, 0)
+
+    def test_only_accepted_ticks_count(self) -> None:
+        """Refused rows and other calls leave the ticks left alone."""
+        self.timer_runs(258, 0)
+        for text in ("0d00000000000001", "0d01000000000000", "0d"):
+            self.assertEqual(
+                tuple(answer_row(self.book, bytes.fromhex(text))),
+                (17, 255, 0),
+            )
+        self.ticks(0, 0, 1)
+        self.expect((3, 255, 0), START)
+        self.expect((13, 255, 0), START_TIMER, 0, 0, 1, 9 * MILLISECOND)
+        self.expect((6, 255, 0), START_TIMER, 0, 0, 0, 999)
+        self.expect((4, 255, 0), SIGNAL, 1)
+        self.expect((0, 0, 0), SIGNAL, 0)
+        self.expect((0, 1, 0), CREATE_TIMER)
+        self.stop(257)
+
+    def test_other_timers_stay(self) -> None:
+        """A stop gives what its own timer has left, and changes no other."""
+        self.prepare((), (), 1, 3)
+        self.expect((0, 255, 0), START)
+        self.restart(70, 0, 0)
+        self.restart(260, 1, 1)
+        self.ticks(0, 0, 3)
+        self.restart(65_535, 1, 2)
+        self.ticks(0, 0, 2)
+        self.stop(255, 1)
+        self.stop(65_533, 2)
+        self.ticks(0, 0, 64)
+        self.ticks(1, 0, 1)
+
+    def test_started_again(self) -> None:
+        """Nothing of an earlier run is left for the next one."""
+        self.timer_runs(400, 1)
+        self.ticks(0, 0, 100)
+        self.stop(300)
+        self.ticks(0, 0, 7)
+        self.restart(260, 0)
+        self.ticks(0, 0, 4)
+        self.stop(256)
+
+    def test_other_calls_give_as_before(self) -> None:
+        """While a timer runs, each other call gives what document 01 says."""
+        self.prepare((4,), (4,), 1, 2)
+        self.expect((0, 255, 1), START)
+        self.expect((0, 255, 1), START_TIMER, 0, 0, 1, 300 * MILLISECOND)
+        self.expect((0, 2, 1), CREATE_THREAD, 3)
+        self.expect((0, 1, 1), CREATE_MUTEX, 5)
+        self.expect((0, 1, 1), CREATE_CONDITION_VARIABLE)
+        self.expect((0, 2, 1), CREATE_TIMER)
+        self.expect((0, 255, 1), ACQUIRE, 0)
+        self.expect((0, 255, 2), WAIT, 0, 0)
+        self.expect((0, 1, 1), SIGNAL, 0)
+        self.expect((0, 255, 1), RELEASE, 0)
+        self.expect((0, 0, 1), BROADCAST, 0)
+        self.expect((0, 255, 1), START_TIMER, 1, 0, 0, MILLISECOND)
+        self.expect((0, 1, 1), TICK)
+        self.expect((0, 299, 1), STOP_TIMER, 0)
+        self.expect((0, 0, 1), TICK)
 
 
 class Marks(Scene):

@@ -7,16 +7,17 @@ row, not in the book, so that a mistake in the book cannot hide itself.
 from __future__ import annotations
 
 import unittest
+from dataclasses import dataclass
 from functools import lru_cache
-from typing import Dict, List, Tuple
+from typing import Dict, List, Set, Tuple
 
 from actions import leads_to
 from book import Book
 from chance import Chance, chance_for
 from layout import Record, bytes_of, record_of
 from make_files import (
-    FAR_AT, FAR_EVERY, MANY_AT, MANY_EVERY, NEVER_ALONE, CallFile,
-    make_call_file, make_record,
+    FAR_AT, FAR_EVERY, MANY_AT, MANY_EVERY, NEVER_ALONE, STOPS_AT,
+    STOPS_EVERY, CallFile, make_call_file, make_record,
 )
 from make_records import (
     deep_record, laid_out_record, started_record, stopped_record,
@@ -78,9 +79,65 @@ def given_by(before: Record, row: bytes) -> int:
         return min(waiting_on(before, row[1]), 1)
     if row[0] == 10:
         return waiting_on(before, row[1])
+    if row[0] == 12:
+        return before.timers[row[1]].left
     if row[0] == 13:
         return sum(timer.left == 1 for timer in before.timers)
     return NONE
+
+
+@dataclass
+class TimerRun:
+    """A timer's run: begun in a record or not, and what it came through."""
+
+    loaded: bool
+    ticks: int = 0
+    expiries: int = 0
+    across: bool = False
+
+    def tick(self, before: Record, identity: int) -> None:
+        """Note an accepted tick, from the record before it."""
+        self.ticks += 1
+        self.expiries += before.timers[identity].left == 1
+        self.across = self.across or before.tick_count == 2 ** 32 - 1
+
+    def said(self) -> List[str]:
+        """All that can be said of the run when it is stopped."""
+        begun = "loaded" if self.loaded else "started"
+        true = {
+            "at once": self.ticks == 0, "ticked": self.ticks > 0,
+            "expired": self.expiries > 0, "expired twice": self.expiries > 1,
+            "across": self.across,
+        }
+        return [begun + ", " + word for word in true if true[word]]
+
+
+# Ticks left, the timer's state, and something said of its run.
+Stop = Tuple[int, int, str]
+
+
+def stops_of(made: CallFile) -> Set[Stop]:
+    """The accepted stops of a call file, from rows, answers and records."""
+    book = begin(made)
+    runs: Dict[int, TimerRun] = {
+        identity: TimerRun(True)
+        for identity, timer in enumerate(record_of(save(book)).timers)
+        if timer.state != 0
+    }
+    found: Set[Stop] = set()
+    for row in rows_of(made):
+        before = record_of(save(book))
+        if answer_row(book, row).answer != 0:
+            continue
+        if row[0] == 11:
+            runs[row[1]] = TimerRun(False)
+        elif row[0] == 12:
+            timer, run = before.timers[row[1]], runs.pop(row[1])
+            found |= {(timer.left, timer.state, one) for one in run.said()}
+        elif row[0] == 13:
+            for identity, run in runs.items():
+                run.tick(before, identity)
+    return found
 
 
 class Stream(unittest.TestCase):
@@ -257,6 +314,67 @@ class CallFiles(unittest.TestCase):
                 )
             self.assertEqual(save(stopping), save(straight))
         self.assertGreater(stops, 500)
+
+
+class Stops(unittest.TestCase):
+    """Call files made for stops: each of them meets every case."""
+
+    FEW = (1, 255, 256, 257)
+    ALL = FEW + (65_535,)
+
+    def made(self, turn: int) -> Tuple[CallFile, ...]:
+        """The files from boot, turn 0, or those from a record, turn 1."""
+        return call_files()[STOPS_AT + turn * STOPS_EVERY::2 * STOPS_EVERY]
+
+    def wanted(
+        self, lefts: Tuple[int, ...], states: Tuple[int, ...], *said: str
+    ) -> Set[Stop]:
+        """A stop at each of these, in each of these states, of each run."""
+        return {
+            (left, state, one)
+            for left in lefts for state in states for one in said
+        }
+
+    def met_by_all(self) -> Set[Stop]:
+        """What a file has to meet wherever it begins."""
+        return (
+            self.wanted(self.ALL, (1, 2), "started, at once")
+            | self.wanted(self.FEW, (1, 2), "started, ticked")
+            | self.wanted(self.FEW, (2,), "started, expired")
+        )
+
+    def test_from_boot(self) -> None:
+        """One-shot and periodic, at once, after ticks, after an expiry."""
+        for made in self.made(0):
+            self.assertIsNone(made.start)
+            self.assertEqual(self.met_by_all() - stops_of(made), set())
+
+    def test_from_records(self) -> None:
+        """The same, across the round, and of timers the record runs."""
+        wanted = self.met_by_all() | self.wanted(
+            self.FEW, (1, 2), "started, across", "loaded, across",
+            "loaded, ticked",
+        )
+        wanted |= self.wanted(self.ALL, (1, 2), "loaded, at once")
+        wanted |= self.wanted(self.FEW, (2,), "loaded, expired twice")
+        wanted |= self.wanted(
+            (65_535,), (2,), "loaded, expired", "loaded, across"
+        )
+        for made in self.made(1):
+            self.assertEqual(wanted - stops_of(made), set())
+
+    def test_starts_and_lengths(self) -> None:
+        """The records are sound and near the round; no file is long."""
+        both = self.made(0) + self.made(1)
+        self.assertEqual(len(both), FILES // STOPS_EVERY)
+        for made in both:
+            self.assertLess(len(made.rows) // 8, 1_000)
+            self.assertEqual(len(made.rows) % 8, 0)
+        for made in self.made(1):
+            assert made.start is not None
+            self.assertIsNone(broken_rule(made.start))
+            count = record_of(made.start).tick_count
+            self.assertLessEqual(2 ** 32 - count, 64)
 
 
 class Records(unittest.TestCase):

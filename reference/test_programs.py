@@ -114,6 +114,17 @@ class Run(Folder):
         )
         self.assertEqual(self.get("end")[20:24], bytes(4))
 
+    def test_stops(self) -> None:
+        """What a stop gives stands in the text in full, in decimal."""
+        calls = self.put("calls", b"".join(map(row_of, (
+            "04", "05", "01", "0B 00 00 00 FF FF E7 03", "0C",
+            "0B 00 00 01 E8 EB 03", "0D", "0C", "0C",
+        ))))
+        self.assertEqual(program("run.py", calls), (0, HEADING + (
+            b"1 0 0 255\n2 0 0 255\n3 0 255 0\n4 0 255 0\n5 0 65535 0\n"
+            b"6 0 255 0\n7 0 0 0\n8 0 256 0\n9 14 255 0\n"
+        ), b""))
+
     def test_refused_start(self) -> None:
         """One line, and no end."""
         calls, end = self.put("calls", CALLS), self.path("end")
@@ -210,13 +221,14 @@ class Generate(Folder):
 
     def test_same_files_each_time(self) -> None:
         """The same seed gives the same files in every process."""
+        # Of 33 files two are made for stops, from boot and from a record.
         found: List[List[Tuple[str, bytes]]] = []
         for name, order in (("one", "1"), ("two", "2")):
             folder = self.path(name)
             environment = {"PYTHONHASHSEED": order}
             for what in ("calls", "records"):
                 self.assertEqual(program(
-                    "generate.py", what, "7", "12", folder,
+                    "generate.py", what, "7", "33", folder,
                     environment=environment,
                 ), (0, b"", b""))
             files = sorted(os.listdir(folder))
@@ -226,8 +238,8 @@ class Generate(Folder):
         self.assertEqual(found[0], found[1])
         names = [file for file, _ in found[0]]
         self.assertIn("calls-00000.bin", names)
-        self.assertIn("calls-00011.bin", names)
-        self.assertIn("record-00011.bin", names)
+        self.assertIn("calls-00032.bin", names)
+        self.assertIn("record-00032.bin", names)
         self.assertTrue(any(name.endswith(".start") for name in names))
 
     def test_trouble(self) -> None:

@@ -15,7 +15,7 @@ from actions import Action
 from book import Book
 from chance import Chance
 from rows import ROW, answer_row
-from words import START, TICK, Answer
+from words import START, TICK, TIMERS, Answer
 
 Weights = Tuple[Tuple[int, Action], ...]
 Range = Tuple[int, int]
@@ -119,6 +119,18 @@ WILD: Weights = REFUSED + CREATING + (
     (3, actions.wait_well), (3, actions.missing_id),
 )
 
+# No call here stops a timer or starts one, so each runs until it is stopped on
+# purpose, and none makes more than one tick.
+BETWEEN_STOPS: Weights = (
+    (30, actions.tick_once), (2, actions.acquire_free),
+    (2, actions.wait_well), (1, actions.release_own),
+    (1, actions.signal_any), (1, actions.create_thread),
+    (1, actions.start), (1, actions.missing_id),
+    (1, actions.create_outside), (1, actions.start_timer_outside),
+    (1, actions.start_timer_again), (1, actions.stop_timer_stopped),
+    (1, actions.wrong_row),
+)
+
 TASTES: Tuple[Taste, ...] = (
     Taste("mixed", (1, 15), (4, 15), (2, 12), (1, 8), (1, 6), (1, 8),
           (MIXED,)),
@@ -142,6 +154,12 @@ TASTES: Tuple[Taste, ...] = (
           (WILD,)),
 )
 
+# The taste of the walks that are made for stops; no other walk has it.
+STOPPING = Taste(
+    "stopping", (1, 8), (8, 12), (2, 8), (1, 4), (1, 6), (TIMERS, TIMERS),
+    (BETWEEN_STOPS,),
+)
+
 TRIES = 8
 PHASES = (5, 20, 60)
 
@@ -153,7 +171,7 @@ def laid_out(weights: Weights) -> List[Action]:
 
 LAID_OUT: Dict[str, List[List[Action]]] = {
     taste.name: [laid_out(weights) for weights in taste.phases]
-    for taste in TASTES
+    for taste in TASTES + (STOPPING,)
 }
 
 

@@ -8,7 +8,8 @@ from __future__ import annotations
 
 from typing import NamedTuple
 
-# One number stands for "no thread", "no object" and "nothing given".
+# One number stands for "no thread", "no object" and "nothing given". A stop
+# with so many ticks left gives it as well: the code and the answer tell.
 NONE = 255
 
 THREADS, MUTEXES, CONDITION_VARIABLES, TIMERS = 32, 16, 16, 32
@@ -78,6 +79,11 @@ class Answer(NamedTuple):
 def length_of(microseconds: int) -> int:
     """The length n in ticks of a delay in microseconds, rounded down."""
     return microseconds // MICROSECONDS_PER_TICK
+
+
+def delay_of(length: int, rest: int = 0) -> int:
+    """A delay of this length; rest is the microseconds rounding drops."""
+    return length * MICROSECONDS_PER_TICK + rest
 
 
 def spoke_of(tick_count: int, left: int) -> int:

@@ -1,14 +1,20 @@
-"""The answer numbers of document 01 in words.
+"""Answers in words: the numbers of document 01, and what is given.
 
-    ANSWERS     what each number says, as a clause
-    guide()     the numbers, what they say, and to which calls, for people
+    ANSWERS                     what each number says, as a clause
+    some(count, what)           so many of something
+    ticks_left(code, answer)    the ticks that a stop gave, or nothing
+    guide()                     the numbers, what they say, and to which calls,
+                                for people
+    given_guide()               what each call gives, for people
 
 Imported by the words; it is no program.
 """
 
 from __future__ import annotations
 
-from typing import List, Mapping
+from typing import List, Mapping, Tuple
+
+from borrowed import DONE, LONGEST_LENGTH, NONE, STOP_TIMER, Answer
 
 # In the order of document 01's table.
 ANSWERS: Mapping[int, str] = {
@@ -54,6 +60,29 @@ GIVEN_TO: Mapping[int, str] = {
         "a kind above 1; a last row that is cut short",
 }
 
+# What is given by calls that are done.
+GIVEN: Tuple[Tuple[str, str], ...] = (
+    ("create thread, create mutex, create condition variable, create timer",
+     "the new id"),
+    ("signal, broadcast", "how many threads left the condition variable"),
+    ("stop timer",
+     f"the ticks that were left to the timer, 1 to {LONGEST_LENGTH}"),
+    ("tick", "how many timers expired"),
+    ("any other call, and any that is refused", f"{NONE}, for nothing"),
+)
+
+
+def some(count: int, what: str) -> str:
+    """So many of something."""
+    return f"{count or 'no'} {what}{'' if count < 2 else 's'}"
+
+
+def ticks_left(code: int, answer: Answer) -> str:
+    """What was left of a timer that a call stopped; of others nothing."""
+    if code != STOP_TIMER or answer.answer != DONE:
+        return ""
+    return f"{some(answer.given, 'tick')} left"
+
 
 def guide() -> List[str]:
     """One line for each number: what it says, and what is answered so."""
@@ -62,3 +91,10 @@ def guide() -> List[str]:
         f"{number:2}  {meaning:{width}}  {GIVEN_TO[number]}"
         for number, meaning in ANSWERS.items()
     ]
+
+
+def given_guide() -> List[str]:
+    """What is given, one line for each kind of call."""
+    width = max(len(calls) for calls, _ in GIVEN)
+    lines = [f"{calls:{width}}  {what}" for calls, what in GIVEN]
+    return ["given is:", *lines]

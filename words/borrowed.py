@@ -24,8 +24,9 @@ from words import (  # noqa: E402
     ACQUIRE, BROADCAST, CONDITION_VARIABLES, CREATE_CONDITION_VARIABLE,
     CREATE_MUTEX, CREATE_THREAD, CREATE_TIMER, DONE, HIGHEST_PRIORITY,
     LONGEST_LENGTH, MICROSECONDS_PER_TICK, MUTEXES, NONE, NOT_SOUND, PERIODIC,
-    RUNNING, SIGNAL, THREADS, TICK, TICK_COUNT_ROUND, TIMER_STOPPED, TIMERS,
-    WAIT, WAITS_FOR_MUTEX, WAITS_ON_CONDITION_VARIABLE, WRONG_FORM, Answer,
+    RUNNING, SIGNAL, STOP_TIMER, THREADS, TICK, TICK_COUNT_ROUND,
+    TIMER_STOPPED, TIMERS, WAIT, WAITS_FOR_MUTEX, WAITS_ON_CONDITION_VARIABLE,
+    WRONG_FORM, Answer,
 )
 
 __all__ = [
@@ -33,10 +34,10 @@ __all__ = [
     "CREATE_CONDITION_VARIABLE", "CREATE_MUTEX", "CREATE_THREAD",
     "CREATE_TIMER", "DONE", "ENTRY_SIZES", "HEADER", "HIGHEST_PRIORITY",
     "LIMITS", "LONGEST_LENGTH", "MICROSECONDS_PER_TICK", "MUTEXES", "NONE",
-    "NOT_SOUND", "PERIODIC", "RUNNING", "SIGNAL", "THREADS", "TICK",
-    "TICK_COUNT_ROUND", "TIMERS", "TIMER_STOPPED", "WAIT", "WAITS_FOR_MUTEX",
-    "WAITS_ON_CONDITION_VARIABLE", "WRONG_FORM", "Answer", "Broken",
-    "Header", "Record", "TimerEntry", "all_broken_sound", "answer_of",
-    "broken_rule", "first_breach", "header_of", "packed", "record_of",
-    "standing",
+    "NOT_SOUND", "PERIODIC", "RUNNING", "SIGNAL", "STOP_TIMER", "THREADS",
+    "TICK", "TICK_COUNT_ROUND", "TIMERS", "TIMER_STOPPED", "WAIT",
+    "WAITS_FOR_MUTEX", "WAITS_ON_CONDITION_VARIABLE", "WRONG_FORM", "Answer",
+    "Broken", "Header", "Record", "TimerEntry", "all_broken_sound",
+    "answer_of", "broken_rule", "first_breach", "header_of", "packed",
+    "record_of", "standing",
 ]

@@ -113,7 +113,8 @@ FORMS: Tuple[Form, ...] = (
     form(11, "start timer TIMER CONDITION KIND MICROSECONDS",
          f"it is due in MICROSECONDS / {MICROSECONDS_PER_TICK} ticks, rounded "
          "down; a periodic one again and again"),
-    form(12, "stop timer TIMER", "the timer is stopped"),
+    form(12, "stop timer TIMER",
+         "the timer is stopped, and the ticks that were left are given"),
     form(13, "tick",
          "the count advances; each timer now due, in order of id, signals"),
 )

@@ -218,7 +218,8 @@ def help_word(words: Sequence[str]) -> int:
     if subject == "calls":
         text = "\n".join(texts.guide()) + "\n"
     elif subject == "answers":
-        text = "\n".join(answers.guide()) + "\n"
+        lines = [*answers.guide(), "", *answers.given_guide()]
+        text = "\n".join(lines) + "\n"
     elif not subject:
         text = guide.usage()
     elif subject in guide.USES:

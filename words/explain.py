@@ -11,7 +11,7 @@ from __future__ import annotations
 from collections import Counter
 from typing import Dict, Iterable, Iterator, List, Sequence, Tuple, Union
 
-from answers import ANSWERS
+from answers import ANSWERS, some, ticks_left
 from borrowed import ACQUIRE, BROADCAST, NONE, SIGNAL, TICK, WAIT, Answer
 from calls import THREAD, Names, line_of, split_rows
 from texts import MADE, Calls
@@ -32,15 +32,11 @@ def thread(names: Names, number: int) -> str:
     return "none" if number == NONE else thing(names, THREAD, number)
 
 
-def some(count: int, what: str) -> str:
-    """So many of something."""
-    return f"{count or 'no'} {what}{'' if count < 2 else 's'}"
-
-
 def what_was_done(
-    names: Names, code: int, given: int, still_runs: bool
+    names: Names, code: int, answer: Answer, still_runs: bool
 ) -> str:
     """What came of a call that was done, besides that it was."""
+    given = answer.given
     if code in MADE:
         return f", {thing(names, MADE[code], given)} made"
     if code == ACQUIRE:
@@ -52,7 +48,8 @@ def what_was_done(
         return f", {some(given, 'thread')} left the condition variable"
     if code == TICK:
         return f", {some(given, 'timer')} expired"
-    return ""
+    left = ticks_left(code, answer)
+    return f", {left}" if left else ""
 
 
 def answer_in_words(
@@ -62,7 +59,7 @@ def answer_in_words(
     meaning = ANSWERS.get(answer.answer, "a number of no meaning")
     if answer.answer:
         return f"refused {answer.answer}: {meaning}"
-    return meaning + what_was_done(names, code, answer.given, still_runs)
+    return meaning + what_was_done(names, code, answer, still_runs)
 
 
 def answers_in_words(

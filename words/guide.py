@@ -50,8 +50,8 @@ USES: Dict[str, Use] = {
         "measure the kernel and the run program against plain C",
     )),
     "help": Use("[calls|answers|WORD]", (
-        "this text; the calls with their fields; the answer numbers; one",
-        "word",
+        "this text; the calls with their fields; the answer numbers and what",
+        "is given; one word",
     )),
 }
 NOTES = """\

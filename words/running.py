@@ -17,8 +17,9 @@ import explain
 import programs
 import texts
 import timeline
+from answers import ticks_left
 from borrowed import HEADER, Answer, header_of
-from calls import line_of, split_rows
+from calls import ROW, line_of, split_rows
 from sources import (
     Start, all_calls, all_there, calls_of, handed_of, open_calls, open_start,
     running_at,
@@ -289,6 +290,15 @@ def put_pictures(room: Room, name: str, pictures: Sequence[str]) -> None:
     say_older(name, len(names))
 
 
+def lines_drawn(calls: texts.Calls, answers: Sequence[Answer]) -> List[str]:
+    """Each call, and what was left of a timer that it stopped."""
+    lines = [line_of(row, calls.names) for row in split_rows(calls.rows)]
+    for at, answer in enumerate(answers[:len(lines)]):
+        left = ticks_left(calls.rows[at * ROW], answer)
+        lines[at] += f", {left}" if left else ""
+    return lines
+
+
 def draw(
     name: str, begin: str, ticks: Optional[Tuple[int, int]], picture: str
 ) -> int:
@@ -306,8 +316,7 @@ def draw(
         if answers is None:
             return say_refused(start, [picture])
         trace = traced(room, calls, start)
-        rows = split_rows(calls.rows)
-        lines = [line_of(row, calls.names) for row in rows]
+        lines = lines_drawn(calls, answers)
         told = ["the trace is read"]
         with telling(lambda: told[-1]):
             drawn = timeline.pictures(

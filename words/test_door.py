@@ -23,13 +23,15 @@ from unittest import mock
 
 import running
 import sources
+from borrowed import Answer
 from programs import (
     HEADING, Feeder, Handed, Outcome, Text, outcome, place_read,
 )
-from running import finish_record, is_record, share
+from running import finish_record, is_record, lines_drawn, share
 from sources import Start, all_there, open_calls, open_start, running_at
 from streams import Output, Room, Trouble, printable
 from testing import record, run_tests
+from texts import calls_of_rows
 from timeline import pictures
 
 OLD = b"what was there before"
@@ -160,6 +162,30 @@ class Shares(unittest.TestCase):
                 stream.read(60)
                 for path in (file, link / "rows"):
                     self.assertEqual(place_read(os.getpid(), str(path)), 60)
+
+
+class Drawn(unittest.TestCase):
+    """The calls of a picture, in words."""
+
+    def test_stops(self) -> None:
+        """A stop that is done has what was left; no other call has."""
+        stop, tick = bytes.fromhex("0C01") + bytes(6), b"\x0d" + bytes(7)
+        calls = calls_of_rows("name", stop * 4 + tick + stop[:7])
+        self.assertEqual(lines_drawn(calls, [
+            Answer(0, 1, 0), Answer(0, 255, 0), Answer(14, 255, 0),
+            Answer(0, 65_535, 0), Answer(0, 2, 0), Answer(17, 255, 0),
+        ]), [
+            "stop timer 1, 1 tick left", "stop timer 1, 255 ticks left",
+            "stop timer 1", "stop timer 1, 65535 ticks left", "tick",
+            "part 0C 01 00 00 00 00 00",
+        ])
+
+    def test_every_row(self) -> None:
+        """A row stays that has no answer: that is found out later."""
+        calls = calls_of_rows("name", (b"\x0c" + bytes(7)) * 2)
+        self.assertEqual(lines_drawn(calls, [Answer(0, 3, 0)]), [
+            "stop timer 0, 3 ticks left", "stop timer 0",
+        ])
 
 
 class Folder(unittest.TestCase):

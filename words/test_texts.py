@@ -213,8 +213,8 @@ TROUBLED: Tuple[Tuple[str, int, str], ...] = (
     ("tick expect 0 expect 0", 1, "write: expect ANSWER [GIVEN [RUNNING]]"),
     ("tick expect 18", 1, "ANSWER is 0 to 17, not 18"),
     ("tick expect none", 1, "ANSWER is a number from 0 to 17"),
-    ("tick expect 0 256", 1, "GIVEN is 0 to 255, not 256"),
-    ("tick expect 0 -1", 1, "GIVEN is a number from 0 to 255, a name"),
+    ("tick expect 0 65536", 1, "GIVEN is 0 to 65535, not 65536"),
+    ("tick expect 0 -1", 1, "GIVEN is a number from 0 to 65535, a name"),
     ("tick expect 0 0 256", 1, "RUNNING is 0 to 255, not 256"),
     ("tick expect 0 0 other", 1, "nothing is named other so far"),
     ("tick expect 0 other", 1, "nothing is named other so far"),
@@ -669,6 +669,8 @@ class Expected(Case):
             ("0 2", (5, 0, 2, None, "answer 0, given 2")),
             ("0 254", (5, 0, 254, None, "answer 0, given 254")),
             ("0 255", (5, 0, 255, None, "answer 0, given none")),
+            ("0 256", (5, 0, 256, None, "answer 0, given 256")),
+            ("0 65535", (5, 0, 65_535, None, "answer 0, given 65535")),
             ("9 none", (5, 9, 255, None, "answer 9, given none")),
             ("0 none 3",
              (5, 0, 255, 3, "answer 0, given none, running 3")),
@@ -729,6 +731,44 @@ class Expected(Case):
             "name:12: row 12: expected answer 9, given none, but answer 4 "
             "(an id that does not exist), given none, running 1 (transfer)",
         ])
+
+    def test_forms_at_a_stop(self) -> None:
+        """There 255 is a number of ticks, as far as it is typed."""
+        for said, words in (
+            ("0 255", "answer 0, given 255"),
+            ("0 none", "answer 0, given none"),
+            ("0 255 255", "answer 0, given 255, running none"),
+            ("0 256", "answer 0, given 256"),
+        ):
+            for text in (f"stop timer 0 expect {said}",
+                         f"stop timer 0\nexpect {said}"):
+                found = self.expectations(text)
+                self.assertEqual([each[-1] for each in found], [words])
+        # The last row is what it is of, a part row too, and none so far.
+        for text in ("stop timer 0\ntick expect 0 255",
+                     "stop timer 0\npart 0D expect 0 255",
+                     "tick\nrepeat 2\nexpect 0 255\nend"):
+            found = self.expectations(text)
+            self.assertEqual(found[-1][-1], "answer 0, given none", text)
+
+    def test_unmet_at_a_stop(self) -> None:
+        """What a stop gives is said as ticks, 255 too; refused it is none."""
+        found = read(NAMED + "start\n" + (
+            "start timer pulse ready one-shot 256000\ntick\n"
+            "stop timer pulse expect 0 256\nstop timer pulse expect 0\n"
+        ))
+        self.assertEqual(unmet(found, second(found.rows)), [
+            "name:8: row 8: expected answer 0, given 256, but answer 0, given "
+            "255 (255 ticks left), running 1 (transfer)",
+            "name:9: row 9: expected answer 0, but answer 14 (the timer is "
+            "stopped), given none, running 1 (transfer)",
+        ])
+        for given in ("255", "none", "any"):
+            found = read(NAMED + "start\n" + (
+                "start timer pulse ready one-shot 255000\n"
+                f"stop timer pulse expect 0 {given}\n"
+            ))
+            self.assertEqual(unmet(found, second(found.rows)), [], given)
 
     def test_each_number_is_held(self) -> None:
         """One number that differs is enough, and none is too many."""
@@ -960,6 +1000,20 @@ class Explained(Case):
         found = list(explained(calls_of, 1, [Answer(0, 2, 1)]))
         self.assertIn("done, 2 threads left the condition variable", found[1])
 
+    def test_stop(self) -> None:
+        """What was left of a timer that was stopped; refused, nothing."""
+        calls_of = calls_of_rows("name", row("0C") * 5)
+        found = list(explained(calls_of, 1, [
+            Answer(0, 1, 1), Answer(0, 255, 1), Answer(0, 256, 1),
+            Answer(0, 65_535, 1), Answer(14, NONE, 1),
+        ]))
+        for line, said in zip(found[1:], (
+            "done, 1 tick left  ", "done, 255 ticks left  ",
+            "done, 256 ticks left  ", "done, 65535 ticks left  ",
+            "refused 14: the timer is stopped  ",
+        )):
+            self.assertIn(f"  stop timer 0  {said}", line)
+
     def test_no_row(self) -> None:
         """Nothing but the heading, and that no row was refused."""
         for found in (calls_of_rows("name", b""), read("# only this")):
@@ -1013,7 +1067,7 @@ CALLS_BY_HAND: Tuple[Tuple[str, Tuple[str, ...]], ...] = (
     ("broadcast CONDITION", ("signals until none waits",)),
     ("start timer TIMER CONDITION one-shot|periodic MICROSECONDS",
      ("due", "MICROSECONDS / 1000 ticks, rounded down", "periodic one again")),
-    ("stop timer TIMER", ("stopped",)),
+    ("stop timer TIMER", ("is stopped", "ticks that were left")),
     ("tick", ("the count advances", "each timer now due, in order of id")),
 )
 # The calls that document 01's table and its calls let each answer be given to.
@@ -1103,6 +1157,19 @@ class Guide(Case):
             self.assertIn(words[number], line)
             self.assertIn(answers.ANSWERS[number], line)
 
+    def test_given(self) -> None:
+        """What each call gives, as documents 01 and 02 have it."""
+        guided = answers.given_guide()
+        self.assertEqual([" ".join(line.split()) for line in guided], [
+            "given is:",
+            "create thread, create mutex, create condition variable, create "
+            "timer the new id",
+            "signal, broadcast how many threads left the condition variable",
+            "stop timer the ticks that were left to the timer, 1 to 65535",
+            "tick how many timers expired",
+            "any other call, and any that is refused 255, for nothing",
+        ])
+
     def test_answers_are_given_to(self) -> None:
         """The calls beside each number are those of document 01."""
         for number, line in enumerate(answers.guide()):
@@ -1168,7 +1235,8 @@ class Guide(Case):
         for pattern, _ in OTHER_LINES[:3] + OTHER_LINES[4:7]:
             self.assertIn(f"`{pattern.replace('ID', '1')}`", page)
         for words in (
-            "ANSWER is 0 to 17.", "GIVEN is 0 to 255 ", "RUNNING 0 to 255 ",
+            "ANSWER is 0 to 17.", "GIVEN is 0 to 65535 ", "RUNNING 0 to 255 ",
+            "a stop at\n255 ticks left gives that number too",
             "blanks alone", "`./tehuamozo rows TEXT [START] [-o FILE]`",
             "`./tehuamozo show CALLS [START]`",
         ):

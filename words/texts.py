@@ -23,10 +23,10 @@ from typing import (
     Dict, Iterator, List, Mapping, NamedTuple, Optional, Sequence, Tuple,
 )
 
-from answers import ANSWERS
+from answers import ANSWERS, ticks_left
 from borrowed import (
     CREATE_CONDITION_VARIABLE, CREATE_MUTEX, CREATE_THREAD, CREATE_TIMER,
-    NONE, Answer,
+    NONE, STOP_TIMER, Answer,
 )
 from calls import (
     CONDITION_VARIABLE, FIELDS, FORMS, KINDS, LIMITS, MOST_ROWS, MUTEX, ROW,
@@ -69,7 +69,7 @@ MOST_BYTES = 67_108_864
 MOST_TIMES = 1_000_000
 # Twenty repeats of two rounds are more rows than a text makes.
 DEEPEST = 20
-LARGEST_ANSWER, LARGEST_GIVEN, LARGEST_RUNNING = 17, 255, 255
+LARGEST_ANSWER, LARGEST_GIVEN, LARGEST_RUNNING = 17, 65_535, 255
 
 WRITE_NAME = (
     "write: KIND NAME = create .., or KIND NAME = ID, where KIND is thread, "
@@ -324,6 +324,14 @@ def shown(number: int) -> str:
     return "none" if number == NONE else str(number)
 
 
+def last_stops(reading: Reading) -> bool:
+    """Whether the last row of the innermost block stops a timer."""
+    block = reading.blocks[-1]
+    return bool(block.lines) and (
+        block.rows[(len(block.lines) - 1) * ROW] == STOP_TIMER
+    )
+
+
 def number_or_name(
     reading: Reading, word: str, field: str, most: int, kind: str
 ) -> Tuple[Optional[int], str]:
@@ -331,12 +339,14 @@ def number_or_name(
     if word == "any":
         return None, ""
     if word == "none":
-        word = str(NONE)
+        return NONE, f"{field.lower()} none"
     if NAME.fullmatch(word) is None:
         number = number_of(
             word, field, 0, most, beside=", a name, none or any"
         )
-        return number, f"{field.lower()} {shown(number)}"
+        # Of what a stop gives, 255 is a number of ticks.
+        ticks = field == "GIVEN" and last_stops(reading)
+        return number, f"{field.lower()} {number if ticks else shown(number)}"
     named = reading.names.get(word)
     if named is None:
         raise Trouble(f"nothing is named {printable(word)} so far")
@@ -581,14 +591,17 @@ def is_met(wanted: Expectation, answer: Answer) -> bool:
     )
 
 
-def answer_said(names: Names, answer: Answer) -> str:
-    """An answer for people."""
+def answer_said(names: Names, code: int, answer: Answer) -> str:
+    """The answer to a row of this code, for people."""
+    # A stop at 255 ticks left gives the number that else stands for none.
+    left = ticks_left(code, answer)
+    given = f"{answer.given} ({left})" if left else shown(answer.given)
     meaning = ANSWERS.get(answer.answer, "a number of no meaning")
     why = f" ({meaning})" if answer.answer else ""
     name = names.get((THREAD, answer.running), "")
     who = f" ({name})" if name else ""
     return (
-        f"answer {answer.answer}{why}, given {shown(answer.given)}, "
+        f"answer {answer.answer}{why}, given {given}, "
         f"running {shown(answer.running)}{who}"
     )
 
@@ -602,7 +615,8 @@ def unmet(calls: Calls, answers: Sequence[Answer]) -> List[str]:
             answer = answers[wanted.row - 1]
             if is_met(wanted, answer):
                 continue
-            said = answer_said(calls.names, answer)
+            code = calls.rows[(wanted.row - 1) * ROW]
+            said = answer_said(calls.names, code, answer)
         found.append(
             f"{calls.name}:{wanted.line}: row {wanted.row}: "
             f"expected {wanted.words}, but {said}"

@@ -37,7 +37,7 @@ use Rattle.book.proofs.Calls.{alike-acquired, alike-released, alike-wai
 use Rattle.book.proofs.Creating.{alike-thread, alike-mutex, alike-condition}
 use Rattle.book.proofs.Enough.{signals-enough}
 use Rattle.book.proofs.Timers.{Timeless, leftAt, all-ticked, timeless-first, timeless-acquire, timeless-release, timeless-wait, timeless-wake, timeless-signals, tick-alike, tick-given, tick-timers, tick-count}
-use Rattle.book.proofs.Same.{Same, timersIn, timers-in, stopped-left}
+use Rattle.book.proofs.Same.{Same, timersIn, timers-in, timer-in, stopped-left}
 
 -- what is left to the rule of three: the same state and book, and, while started, what the choice of the next thread needs
 pub record BeforeNext (e : State) (l : Book) : Type 0 where
@@ -272,5 +272,5 @@ module _ {s : State} (o : Sound s) {b : Book} (x : Same s b) where
   call-given (Signal d) c = given-signalled (x .alike) (kept o) d (leb-false (length (s .scheduler .rows .ties)) d (c .1 .0))
   call-given (Broadcast d) c = broadcast-given o x (c .0) d (leb-false (length (s .scheduler .rows .ties)) d (c .1 .0))
   call-given (StartTimer i d kind v) c = refl
-  call-given (StopTimer i) c = refl
+  call-given (StopTimer i) c = ap (λ (ts : List S.Timer). S.timer ts i .left) (x .timers) ∙ ap (λ (t : S.Timer). t .left) (timer-in b i)
   call-given Tick c = ap (λ ts. length (dueConditions ts)) (x .timers) ∙ tick-given (x .alike) (kept o) (going o (on o x (c .0))) (exist o x (c .0))

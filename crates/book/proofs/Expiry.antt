@@ -30,7 +30,7 @@ use Rattle.rules.specs.Step.{Stepped, after, step, stepDecoded}
 use Rattle.soundness.proofs.Keeping.{Clear}
 use Rattle.soundness.proofs.Kept.{soundness-is-kept, decoded-keeps}
 use Rattle.book.specs.Answers.{answersOf, finalOf}
-use Rattle.book.specs.History.{callNumber, accepts, ticksTaken, NeverStops, dueFrom, expiring, Expires, TickExpires}
+use Rattle.book.specs.History.{callNumber, accepts, ticksTaken, NeverStops, dueFrom, expiring, Expires, TickExpires, phase}
 use Rattle.book.proofs.Accepted.{by-answer, after-unchosen}
 
 -- ---- the timers that a tick expires
@@ -158,7 +158,7 @@ module _ (s : State) (e : sound s ≡ true) (i : ℕ) (exists : i < length (s .t
 -- ---- a running timer through any number of rows
 
 -- a timer with n ticks fewer left
-abbrev fewer : ℕ → Timer → Timer
+abbrev pub fewer : ℕ → Timer → Timer
 fewer n x = record { state = x .state; condition = x .condition; length = x .length; left = x .left - n }
 
 -- a tick that does not expire it leaves a timer one tick fewer
@@ -207,10 +207,6 @@ timer-runs-on (row ∷ rows) s e i l r n d = go (ticks s row) refl d (timer-runs
         f (ap (λ (t : Timer). goes (t .state)) is ∙ r) (n .1) less ∙ ap (fewer rest) is ∙ (λ j. record { state = x .state; condition = x .condition; length = x .length; left = none j })
 
 -- ---- a periodic timer, again and again
-
--- a periodic timer of length n that signals c, k ticks after it was last due or started
-abbrev phase : ℕ → ℕ → ℕ → Timer
-phase n c k = record { state = periodic; condition = c; length = n; left = n - k }
 
 -- one more tick: it is one tick on, or due and at its beginning again
 phase-ticked : (n c k : ℕ) → k + 1 < n → ticked (phase n c k) ≡ phase n c (k + 1)
@@ -261,7 +257,7 @@ timer-runs-again (row ∷ rows) s e i n c p l is small stops turns k less sum = 
 -- ---- from its start
 
 -- a timer as it is set
-abbrev newTimer : ℕ → Kind → Micros → Timer
+abbrev pub newTimer : ℕ → Kind → Micros → Timer
 newTimer c kind v = record { state = stateOf kind; condition = c; length = ticksIn (v .0); left = ticksIn (v .0) }
 
 -- a timer that was started has its whole length left
@@ -279,7 +275,7 @@ timer-set s e i c kind v z = by-answer s e (StartTimer i c kind v)
     stored : i < length (s .timers) → (i < length (effect s (StartTimer i c kind v) .timers)) × (timer (effect s (StartTimer i c kind v) .timers) i ≡ newTimer c kind v)
     stored l = unfold effect in (rw (length-set (s .timers) i (newTimer c kind v)) l, getD-set-same (s .timers) i (newTimer c kind v) stoppedTimer l)
 
-goes-kind : (kind : Kind) → goes (stateOf kind) ≡ true
+pub goes-kind : (kind : Kind) → goes (stateOf kind) ≡ true
 goes-kind OneShot = refl
 goes-kind Periodic = refl
 
@@ -297,6 +293,28 @@ one-left n k l = by-equal (k + 1) n
     (λ q. ne-eqb (n - k) 1 (λ g. q (omega arith)) ∙ sym (ne-eqb (k + 1) n q))
 
 module _ (s : State) (e : sound s ≡ true) (i c : ℕ) (v : Micros) where
+  -- after its start, unless it is stopped first, a timer set for n ticks has one fewer left for each accepted tick, until it is due
+  pub timer-since-start : (kind : Kind) → step s (StartTimer i c kind v) .answer .number ≡ 0 → (rows : List Decoded) → NeverStops i rows
+      → ticksTaken rows (answersOf (step s (StartTimer i c kind v) .state) rows) < ticksIn (v .0)
+      → timer (finalOf (step s (StartTimer i c kind v) .state) rows .timers) i ≡ fewer (ticksTaken rows (answersOf (step s (StartTimer i c kind v) .state) rows)) (newTimer c kind v)
+  timer-since-start kind z rows n d =
+      let t = step s (StartTimer i c kind v) .state in
+      let past = ticksTaken rows (answersOf t rows) in
+      let set = timer-set s e i c kind v z in
+      timer-runs-on rows t (soundness-is-kept s (StartTimer i c kind v) e) i (set .0) (ap (λ (x : Timer). goes (x .state)) (set .1) ∙ goes-kind kind) n
+      (subst (λ (x : Timer). past < x .left) (sym (set .1)) d) ∙ ap (fewer past) (set .1)
+
+  -- and a periodic one k accepted ticks after it was last due, or started, has n less k left
+  pub timer-since-due : step s (StartTimer i c Periodic v) .answer .number ≡ 0 → (rows : List Decoded) → NeverStops i rows
+      → (turns k : ℕ) → k < ticksIn (v .0) → ticksTaken rows (answersOf (step s (StartTimer i c Periodic v) .state) rows) ≡ turns * ticksIn (v .0) + k
+      → timer (finalOf (step s (StartTimer i c Periodic v) .state) rows .timers) i ≡ phase (ticksIn (v .0)) c k
+  timer-since-due z rows n turns k less total =
+      let t = step s (StartTimer i c Periodic v) .state in
+      let set = timer-set s e i c Periodic v z in
+      let whole : ticksIn (v .0) ≡ ticksIn (v .0) - 0 = omega arith in
+      let new : timer (t .timers) i ≡ phase (ticksIn (v .0)) c 0 = set .1 ∙ (λ j. record { state = periodic; condition = c; length = ticksIn (v .0); left = whole j }) in
+      timer-runs-again rows t (soundness-is-kept s (StartTimer i c Periodic v) e) i (ticksIn (v .0)) c 0 (set .0) new (omega arith) n turns k less (zero-add _ ∙ total)
+
   -- a timer set for n ticks is among those that a tick expires at the nth accepted tick after its start, and at none before, unless it is stopped first
   pub expires-at-its-tick : (kind : Kind) → step s (StartTimer i c kind v) .answer .number ≡ 0 → (rows : List Decoded) → NeverStops i rows
       → ticksTaken rows (answersOf (step s (StartTimer i c kind v) .state) rows) < ticksIn (v .0)
@@ -304,21 +322,11 @@ module _ (s : State) (e : sound s ≡ true) (i c : ℕ) (v : Micros) where
   expires-at-its-tick kind z rows n d =
       let t = step s (StartTimer i c kind v) .state in
       let past = ticksTaken rows (answersOf t rows) in
-      let new = newTimer c kind v in
-      let set = timer-set s e i c kind v z in
-      let now : timer (finalOf t rows .timers) i ≡ fewer past new =
-      timer-runs-on rows t (soundness-is-kept s (StartTimer i c kind v) e) i (set .0) (ap (λ (x : Timer). goes (x .state)) (set .1) ∙ goes-kind kind) n
-      (subst (λ (x : Timer). past < x .left) (sym (set .1)) d) ∙ ap (fewer past) (set .1) in
-      known-expires (finalOf t rows) i (fewer past new) _ now (goes-kind kind) (one-left (ticksIn (v .0)) past d)
+      known-expires (finalOf t rows) i (fewer past (newTimer c kind v)) _ (timer-since-start kind z rows n d) (goes-kind kind) (one-left (ticksIn (v .0)) past d)
 
   -- and a periodic one again n accepted ticks later, each time, and at none between
   pub expires-again : step s (StartTimer i c Periodic v) .answer .number ≡ 0 → (rows : List Decoded) → NeverStops i rows
       → (turns k : ℕ) → k < ticksIn (v .0) → ticksTaken rows (answersOf (step s (StartTimer i c Periodic v) .state) rows) ≡ turns * ticksIn (v .0) + k
       → Expires (finalOf (step s (StartTimer i c Periodic v) .state) rows) i c (eqb (k + 1) (ticksIn (v .0)))
   expires-again z rows n turns k less total =
-      let t = step s (StartTimer i c Periodic v) .state in
-      let set = timer-set s e i c Periodic v z in
-      let whole : ticksIn (v .0) ≡ ticksIn (v .0) - 0 = omega arith in
-      let new : timer (t .timers) i ≡ phase (ticksIn (v .0)) c 0 = set .1 ∙ (λ j. record { state = periodic; condition = c; length = ticksIn (v .0); left = whole j }) in
-      let now = timer-runs-again rows t (soundness-is-kept s (StartTimer i c Periodic v) e) i (ticksIn (v .0)) c 0 (set .0) new (omega arith) n turns k less (zero-add _ ∙ total) in
-      known-expires (finalOf t rows) i (phase (ticksIn (v .0)) c k) _ now refl (one-left (ticksIn (v .0)) k less)
+      known-expires (finalOf (step s (StartTimer i c Periodic v) .state) rows) i (phase (ticksIn (v .0)) c k) _ (timer-since-due z rows n turns k less total) refl (one-left (ticksIn (v .0)) k less)

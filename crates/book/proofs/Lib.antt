@@ -15,6 +15,7 @@ pub mod Demand
 pub mod Woken
 pub mod Accepted
 pub mod Expiry
+pub mod Stops
 pub mod Ids
 pub mod Emptied
 pub mod Corollaries

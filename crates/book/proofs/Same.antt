@@ -39,7 +39,7 @@ stopped-left now = λ i. record { state = stopped; condition = 255; length = 0; 
     none : 0 - now ≡ 0
     none = omega arith
 
-timer-in : (b : Book) (i : ℕ) → S.timer (timersIn b) i ≡ leftAt (b .count) (timer b i)
+pub timer-in : (b : Book) (i : ℕ) → S.timer (timersIn b) i ≡ leftAt (b .count) (timer b i)
 timer-in b i = ap (getD (timersIn b) i) (sym (stopped-left (b .count))) ∙ List·getD-map (leftAt (b .count)) (b .timers) i stoppedTimer
 
 -- the tests of the two are the same

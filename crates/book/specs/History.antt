@@ -1,6 +1,6 @@
--- What a run of calls and their answers tells: the accepted ticks, the ids that were given; and which timers a tick expires.
+-- What a run of calls and their answers tells: the accepted ticks, the ids that were given; which timers a tick expires, and what a stop gives.
 -- Assumes nothing.
-use Prim.Native.Nat.{ℕ, zero, suc, _+_}
+use Prim.Native.Nat.{ℕ, zero, suc, _+_, _-_}
 use mathlib.Core.Path.{_≡_}
 use mathlib.Core.Bool.{Bool, false, cond, _&&_}
 use mathlib.Core.List.{List, [], _∷_, map}
@@ -11,7 +11,7 @@ use Rattle.calls.specs.declared.Call.{Call}
 use Rattle.calls.specs.declared.Call.the-variants.{Start, CreateThread, CreateMutex, CreateCondition, CreateTimer, Acquire, Release, Wait, Signal, Broadcast, StartTimer, StopTimer, Tick}
 use Rattle.calls.specs.declared.Decoded.{Decoded}
 use Rattle.calls.specs.declared.Decoded.the-variants.{Taken, WrongForm}
-use Rattle.rules.specs.State.{State, Timer, timer}
+use Rattle.rules.specs.State.{periodic, State, Timer, timer}
 use Rattle.rules.specs.Effects.{isDue, signalledEach, effect}
 use Rattle.rules.specs.Sound.{mem}
 use Rattle.rules.specs.Step.{accepted}
@@ -70,6 +70,15 @@ pub record Expires (s : State) (i c : ℕ) (due : Bool) : Type 0 where
 pub record TickExpires (s : State) : Type 0 where
   pub counted : accepted s Tick .answer .given ≡ length (expiring s)
   pub signals : effect s Tick .scheduler ≡ signalledEach (s .scheduler) (map (λ i. timer (s .timers) i .condition) (expiring s))
+
+-- a periodic timer of length n that signals c, k ticks after it was last due or started
+abbrev pub phase : ℕ → ℕ → ℕ → Timer
+phase n c k = record { state = periodic; condition = c; length = n; left = n - k }
+
+-- a stop was done, and gave this many ticks
+pub record GivesTicks (answer : Answer) (many : ℕ) : Type 0 where
+  pub done : answer .number ≡ 0
+  pub given : answer .given ≡ many
 
 -- ---- ids
 

@@ -173,7 +173,7 @@ unfoldable pub expireBelow : ℕ → Book → Outcome
 expireBelow zero b = record { book = b; given = 0 }
 expireBelow (suc n) b = let o = expireBelow n b in let e = expire (o .book) n in record { book = e .book; given = o .given + e .given }
 
--- what each call does, before the rule of three
+-- what each call does, before the rule of three; a stop gives the ticks from now to the one at which the timer is due (document 02, L2)
 unfoldable pub outcome : Book → Call → Outcome
 outcome b Start = plainly (runFirst (nowStarted b))
 outcome b (CreateThread p) = record { book = createThread b p; given = length (b .threads) }
@@ -187,7 +187,7 @@ outcome b (Signal c) = signal b c
 outcome b (Broadcast c) = signals (length (b .threads)) b c
 outcome b (StartTimer i c kind v) =
     plainly (withTimers b (set (b .timers) i (record { state = kindState kind; condition = c; length = ticksIn (v .0); due = b .count + ticksIn (v .0) })))
-outcome b (StopTimer i) = plainly (withTimers b (set (b .timers) i stoppedTimer))
+outcome b (StopTimer i) = record { book = withTimers b (set (b .timers) i stoppedTimer); given = timer b i .due - b .count }
 outcome b Tick = expireBelow (length (b .timers)) (nextTick b)
 
 -- ---- the rule of three

@@ -17,11 +17,12 @@ use Rattle.wheel.proofs.Promise.{start-hangs, good-empty, good-started, fill-no
 use Rattle.rules.specs.State.{Timer, stoppedTimer, timer}
 use Rattle.rules.specs.Page as rules
 use Rattle.rules.specs.Page.{rowsOf, timerStateOf, timerOf, describedBy, threadFormed, timerFormed, eachRow, pageFormed, pageSound, timerCode}
+use Rattle.soundness.proofs.Timers.{timer-at}
 use Rattle.pages.proofs.Rows.{row-passes, timer-row-found}
 use Rattle.engine.specs.declared.Timer as engine
 use Rattle.engine.specs.Models.{stoppedRow}
 use Rattle.engine.specs.Stands.{rowOfTimer, timerIn, hungOf}
-use Rattle.engine.proofs.Timers.{timer-at, left-short}
+use Rattle.engine.proofs.Timers.{left-short}
 use Rattle.page.specs.declared.TimerRow.{TimerRow}
 use Rattle.page.specs.declared.Page.{Page}
 use Rattle.page.specs.Says.{timerSaid, noTimerRow, stoppedTimerRow, said}

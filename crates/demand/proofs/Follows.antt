@@ -1,8 +1,9 @@
 -- What follows for the kernel of the code, from any sound kernel and through any number of calls and rows: every kernel after them is sound; a running
 -- thread never stands below a ready one; ids are given in order and never again; a broadcast leaves none waiting; a timer set for n ticks expires at
--- the nth accepted tick after its start, unless it is stopped first, and not before, and a periodic one again n ticks later each time.
+-- the nth accepted tick after its start, unless it is stopped first, and not before, and a periodic one again n ticks later each time; a stop gives n
+-- less the accepted ticks since its start or its last expiry, which is 1 to 65,535.
 -- Assumes nothing.
-use Prim.Native.Nat.{ℕ, _+_, _*_, _%_, _<_, _≤_}
+use Prim.Native.Nat.{ℕ, _+_, _-_, _*_, _%_, _<_, _≤_}
 use mathlib.Core.Path.{_≡_, refl, sym, ap, ap₂, _∙_, subst}
 use mathlib.Core.Bool.{Bool, true, false, true≢false}
 use mathlib.Core.List.{List}
@@ -15,13 +16,14 @@ use Rattle.laws.specs.Lists.{getD-tabulate}
 use Rattle.units.specs.declared.Micros.{Micros}
 use Rattle.units.specs.Units.{ticksIn}
 use Rattle.calls.specs.declared.Answer.{Answer}
-use Rattle.calls.specs.declared.Call.the-variants.{Broadcast, StartTimer, Tick}
+use Rattle.calls.specs.declared.Call.the-variants.{Broadcast, StartTimer, StopTimer, Tick}
 use Rattle.calls.specs.declared.Decoded.{Decoded}
 use Rattle.calls.specs.declared.Decoded.the-variants.{Taken}
 use Rattle.calls.specs.declared.Kind.{Kind}
 use Rattle.calls.specs.declared.Kind.the-variants.{Periodic}
 use Rattle.calls.specs.Answers.{numberOf}
-use Rattle.rules.specs.State.{Where, running, ready, forMutex, onCondition, same, State, thread, at, priority}
+use Rattle.rules.specs.State.{Where, running, ready, forMutex, onCondition, same, State, thread, timer, at, priority}
+use Rattle.rules.specs.Effects.{goes}
 use Rattle.rules.specs.Page.{stateCode, objectCode}
 use Rattle.rules.specs.Refusals.{verdictOf}
 use Rattle.rules.specs.Sound.{sound}
@@ -34,10 +36,11 @@ use Rattle.parts.specs.Models.{blank}
 use Rattle.meaning.specs.Stands.{threadIn, threadsOf, schedulerOf}
 use Rattle.engine.specs.Stands.{engineOf}
 use Rattle.book.specs.Answers.{answersOf, finalOf}
-use Rattle.book.specs.History.{ticksTaken, NeverStops, Expires, Table, threads, mutexes, conditions, timers, size, idsGiven, upFrom}
+use Rattle.book.specs.History.{ticksTaken, NeverStops, Expires, phase, GivesTicks, Table, threads, mutexes, conditions, timers, size, idsGiven, upFrom}
 use Rattle.book.proofs.Accepted.{by-answer}
 use Rattle.book.proofs.Demand.{rows-keep}
 use Rattle.book.proofs.Expiry.{tick-expires, expires-at-its-tick, expires-again}
+use Rattle.book.proofs.Stops.{stop-gives-1-to-65535, stop-gives-what-is-left, periodic-stop-gives, stop-gives-length-less-ticks, stop-gives-since-last-expiry}
 use Rattle.book.proofs.Ids.{ids-in-order}
 use Rattle.book.proofs.Emptied.{broadcast-empties}
 use Rattle.kernel.specs.declared.Kernel.{Kernel}
@@ -152,7 +155,43 @@ kernel-broadcast-empties x w c r steps z =
     (waits-none (step.step (s .0) (Broadcast c) .state) (soundness-is-kept (s .0) (Broadcast c) (s .1)) c
     (broadcast-empties (s .0) (s .1) c (sym (ap (λ (q : Stepped). q .answer .number) is) ∙ z)))
 
--- ---- when a timer expires
+-- ---- when a timer expires, and what a stop of it gives
+
+-- a stop of the kernel of a sound state
+stop-told : (s : State) → sound s ≡ true → (y : Kernel) → y ≡ kernelOf s → (i many : ℕ) → GivesTicks (step.step s (StopTimer i) .answer) many
+    → (r : Stepped) → Steps y (Taken (StopTimer i)) r → GivesTicks (r .answer) many
+stop-told s e y d i many told r steps =
+    let is : r ≡ steppedOf (step.step s (StopTimer i)) = unfold stepDecoded in (steps .of-sound s e d) in
+    subst (λ (q : Stepped). GivesTicks (q .answer) many) (sym is) told
+
+-- a stop that is done gives 1 to 65,535 ticks
+pub kernel-stop-gives-1-to-65535 : (x : Kernel) → SoundKernel x → (i : ℕ) (r : Stepped) → Steps x (Taken (StopTimer i)) r → r .answer .number ≡ 0 → (1 ≤ r .answer .given) × (r .answer .given ≤ 65535)
+kernel-stop-gives-1-to-65535 x w i r steps z =
+    let s = sound-state x w in
+    let is : r ≡ steppedOf (step.step (s .0) (StopTimer i)) = unfold stepDecoded in (steps .of-sound (s .0) (s .1) (s .2)) in
+    subst (λ (q : Stepped). (1 ≤ q .answer .given) × (q .answer .given ≤ 65535)) (sym is)
+    (stop-gives-1-to-65535 (s .0) (s .1) i (sym (ap (λ (q : Stepped). q .answer .number) is) ∙ z))
+
+-- of a timer that runs in the state that a kernel describes, such as a loaded one, a stop gives what is left to it there, less the accepted ticks since,
+-- until it is due
+pub kernel-stop-gives-what-is-left : (x : Kernel) (s : State) → sound s ≡ true → x ≡ kernelOf s → (i : ℕ) → goes (timer (s .timers) i .state) ≡ true
+    → (rows : List Decoded) (answers : List Answer) (y : Kernel) → Repeats x rows answers y → NeverStops i rows → ticksTaken rows answers < timer (s .timers) i .left
+    → (q : Stepped) → Steps y (Taken (StopTimer i)) q → GivesTicks (q .answer) (timer (s .timers) i .left - ticksTaken rows answers)
+kernel-stop-gives-what-is-left x s e d i runs rows answers y run never few q steps =
+    let ends = rows-step s e x d rows answers y run in
+    let past = ap (ticksTaken rows) (ends .0) in
+    let told = stop-gives-what-is-left s e i runs rows never (subst (λ n. n < timer (s .timers) i .left) past few) in
+    subst (λ n. GivesTicks (q .answer) (timer (s .timers) i .left - n)) (sym past)
+    (stop-told (finalOf s rows) (rows-keep s e rows) y (ends .1) i _ told q steps)
+
+-- and of a periodic one of length n, which has n less p left there, n less the accepted ticks since it last expired
+pub kernel-periodic-stop-gives : (x : Kernel) (s : State) → sound s ≡ true → x ≡ kernelOf s → (i n c p : ℕ) → timer (s .timers) i ≡ phase n c p → p < n
+    → (rows : List Decoded) (answers : List Answer) (y : Kernel) → Repeats x rows answers y → NeverStops i rows → (turns k : ℕ) → k < n → p + ticksTaken rows answers ≡ turns * n + k
+    → (q : Stepped) → Steps y (Taken (StopTimer i)) q → GivesTicks (q .answer) (n - k)
+kernel-periodic-stop-gives x s e d i n c p is small rows answers y run never turns k less total q steps =
+    let ends = rows-step s e x d rows answers y run in
+    let told = periodic-stop-gives s e i n c p is small rows never turns k less (sym (ap (λ l. p + ticksTaken rows l) (ends .0)) ∙ total) in
+    stop-told (finalOf s rows) (rows-keep s e rows) y (ends .1) i _ told q steps
 
 -- an accepted tick of the kernel of a sound state
 tick-told : (s : State) → sound s ≡ true → (y : Kernel) → y ≡ kernelOf s → (i c : ℕ) (due : Bool) → Expires s i c due → (r : Stepped) → Steps y (Taken Tick) r → r .answer .number ≡ 0 → TickGives y r i c due
@@ -200,6 +239,16 @@ module _ (x : Kernel) (w : SoundKernel x) (i c : ℕ) (v : Micros) where
         subst (λ n. TickGives y q i c (eqb (n + 1) (ticksIn (v .0)))) (sym past)
         (tick-told (finalOf (started kind) rows) (rows-keep (started kind) start-sound rows) y (ends .1) i c _ told q steps z)
 
+    -- until then a stop is done and gives n less the accepted ticks since the start
+    pub kernel-stop-gives-length-less-ticks : (rows : List Decoded) (answers : List Answer) (y : Kernel) → Repeats (r .kernel) rows answers y → NeverStops i rows
+        → ticksTaken rows answers < ticksIn (v .0) → (q : Stepped) → Steps y (Taken (StopTimer i)) q → GivesTicks (q .answer) (ticksIn (v .0) - ticksTaken rows answers)
+    kernel-stop-gives-length-less-ticks rows answers y run never few q steps =
+        let ends = after-start rows answers y run in
+        let past = ap (ticksTaken rows) (ends .0) in
+        let told = stop-gives-length-less-ticks (sound-state x w .0) (sound-state x w .1) i c v kind start-taken rows never (subst (λ n. n < ticksIn (v .0)) past few) in
+        subst (λ n. GivesTicks (q .answer) (ticksIn (v .0) - n)) (sym past)
+        (stop-told (finalOf (started kind) rows) (rows-keep (started kind) start-sound rows) y (ends .1) i _ told q steps)
+
   -- and a periodic one again n accepted ticks later, each time, and at none between
   pub kernel-timer-expires-again : (r : Stepped) → Steps x (Taken (StartTimer i c Periodic v)) r → r .answer .number ≡ 0
       → (rows : List Decoded) (answers : List Answer) (y : Kernel) → Repeats (r .kernel) rows answers y → NeverStops i rows
@@ -209,3 +258,13 @@ module _ (x : Kernel) (w : SoundKernel x) (i c : ℕ) (v : Micros) where
       let ends = after-start Periodic r begins taken rows answers y run in
       let told = expires-again (sound-state x w .0) (sound-state x w .1) i c v (start-taken Periodic r begins taken) rows never turns k less (sym (ap (ticksTaken rows) (ends .0)) ∙ total) in
       tick-told (finalOf (started Periodic) rows) (rows-keep (started Periodic) (start-sound Periodic r begins taken) rows) y (ends .1) i c _ told q steps z
+
+  -- a stop of it gives n less the accepted ticks since it last expired
+  pub kernel-stop-gives-since-last-expiry : (r : Stepped) → Steps x (Taken (StartTimer i c Periodic v)) r → r .answer .number ≡ 0
+      → (rows : List Decoded) (answers : List Answer) (y : Kernel) → Repeats (r .kernel) rows answers y → NeverStops i rows
+      → (turns k : ℕ) → k < ticksIn (v .0) → ticksTaken rows answers ≡ turns * ticksIn (v .0) + k
+      → (q : Stepped) → Steps y (Taken (StopTimer i)) q → GivesTicks (q .answer) (ticksIn (v .0) - k)
+  kernel-stop-gives-since-last-expiry r begins taken rows answers y run never turns k less total q steps =
+      let ends = after-start Periodic r begins taken rows answers y run in
+      let told = stop-gives-since-last-expiry (sound-state x w .0) (sound-state x w .1) i c v (start-taken Periodic r begins taken) rows never turns k less (sym (ap (ticksTaken rows) (ends .0)) ∙ total) in
+      stop-told (finalOf (started Periodic) rows) (rows-keep (started Periodic) (start-sound Periodic r begins taken) rows) y (ends .1) i _ told q steps

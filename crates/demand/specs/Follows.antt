@@ -1,5 +1,5 @@
--- What follows for the kernel of the code: who runs, which ids are given and whom a broadcast leaves, in words of its own rows, counts and answers; and
--- when a timer expires, in words of the one state that the kernel describes. The theorems stand in proofs/Follows.
+-- What follows for the kernel of the code: who runs, which ids are given, whom a broadcast leaves and what a stop gives, in words of its own rows, counts
+-- and answers; and when a timer expires, in words of the one state that the kernel describes. The theorems stand in proofs/Follows.
 -- Assumes nothing.
 use Prim.Native.Nat.{ℕ, _<_, _≤_}
 use mathlib.Core.Path.{_≡_}

@@ -36,7 +36,7 @@ use Rattle.soundness.proofs.Facts.{Sound}
 use Rattle.soundness.proofs.Next.{Kept}
 use Rattle.soundness.proofs.Calls.{Going, left-signalled}
 use Rattle.soundness.proofs.Keeping.{kept, going}
-use Rattle.soundness.proofs.Timers.{going-timer, timers-ticked}
+use Rattle.soundness.proofs.Timers.{timer-at, going-timer, timers-ticked}
 use Rattle.meaning.specs.Stands.{schedulerOf}
 use Rattle.meaning.proofs.Rows.{small-32}
 use Rattle.meaning.proofs.Signals.{signal-stands}
@@ -48,7 +48,7 @@ use Rattle.engine.specs.Models.{stoppedRow, noTimer, timerOf, withSchedu
 use Rattle.engine.specs.Stands.{rowOfTimer, timerIn, hungOf, engineOf, steppedOf}
 use Rattle.engine.proofs.Answers.{refused-stands, answered-stands}
 use Rattle.engine.proofs.Calls.{ready-to-choose}
-use Rattle.engine.proofs.Timers.{timer-at, stopped-left, left-short, good-hung}
+use Rattle.engine.proofs.Timers.{stopped-left, left-short, good-hung}
 use Rattle.engine.proofs.Dues.{Listed, listed, due-conditions}
 
 -- a stopped timer stays as it is

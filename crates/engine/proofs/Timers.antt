@@ -1,16 +1,16 @@
 -- The calls that start and stop a timer, on the engine that describes a sound state, give the engine and the answer of document 01's step.
 -- Assumes nothing.
-use Prim.Native.Nat.{ℕ, zero, suc, _%_, _<_, _≤_}
+use Prim.Native.Nat.{ℕ, _%_, _<_, _≤_}
 use mathlib.Core.Path.{_≡_, refl, sym, ap, ap₂, _∙_}
 use mathlib.Core.Logic.{_≢_}
 use mathlib.Core.Bool.{Bool, true, false, _&&_}
-use mathlib.Core.List.{List, [], _∷_}
+use mathlib.Core.List.{List}
 use native.Mathlib.Omega.{arith}
 use lib.ListN.{length, set, length-set, List·getD-eq-default}
 use lib.Seq.{getD-set-same, getD-set-other}
 use lib.Dec.{eqb, ltb, leb}
 use borrow.Author.Tests.{eqb-true, eq-eqb, lt-ltb, ltb-false, leb-false}
-use Rattle.laws.specs.Bools.{nor-left, and-left, and-right, and-both, cond-true, cond-false}
+use Rattle.laws.specs.Bools.{nor-left, and-right, and-both, cond-true, cond-false}
 use Rattle.laws.specs.Lists.{by-below, tabulate, getD-tabulate, length-tabulate, set-tabulate}
 use Rattle.units.specs.declared.Micros.{Micros}
 use Rattle.units.specs.declared.Length.the-variants.{Whole, OutOfRange}
@@ -21,8 +21,8 @@ use Rattle.calls.specs.declared.Kind.the-variants.{OneShot, Periodic}
 use Rattle.calls.specs.Answers.{numberOf}
 use Rattle.wheel.specs.Hung as hung
 use Rattle.wheel.specs.Hung.{Good, left, withLeft}
-use Rattle.wheel.specs.Promise.{wheelOf, startedIn, stoppedIn}
-use Rattle.wheel.proofs.Promise.{start-hangs, stop-hangs}
+use Rattle.wheel.specs.Promise.{wheelOf, startedIn}
+use Rattle.wheel.proofs.Promise.{start-hangs, stop-hangs, left-hung}
 use Rattle.rules.specs.State.{stopped, Timer, Rows, State, stoppedTimer, timer}
 use Rattle.rules.specs.Effects.{stateOf, goes, effect, given}
 use Rattle.rules.specs.Refusals.{tests, verdictOf}
@@ -31,22 +31,15 @@ use Rattle.rules.specs.Page.{timerCode}
 use Rattle.rules.specs.Step.{stepSound}
 use Rattle.soundness.proofs.Facts.{Sound}
 use Rattle.soundness.proofs.Keeping.{passed}
-use Rattle.soundness.proofs.Timers.{going-timer}
+use Rattle.soundness.proofs.Timers.{timer-at, going-timer}
 use Rattle.meaning.proofs.Rows.{small-32}
-use Rattle.engine.specs.Models.{kindCode, stoppedRow, withTimer, timerStarted, startTimerModel, stopTimerModel}
+use Rattle.engine.specs.Models.{kindCode, stoppedRow, timerStarted, timerStopped, startTimerModel, stopTimerModel}
 use Rattle.engine.specs.Stands.{rowOfTimer, timerIn, hungOf, engineOf, steppedOf}
 use Rattle.engine.proofs.Answers.{judged-stands}
 use Rattle.engine.proofs.Verdicts.{start-timer-verdict, stop-timer-verdict}
 use Rattle.engine.proofs.Calls.{ready-to-choose}
 
 -- ---- what soundness tells of a timer
-
--- each timer of a sound table is sound, and outside the table it is stopped
-pub timer-at : (k : Rows) (ts : List Timer) → timersSound k ts ≡ true → (i : ℕ) → timerSound k (timer ts i) ≡ true
-unfolding timersSound
-timer-at k [] e i = refl
-timer-at k (x ∷ ts) e zero = and-left (timerSound k x) (timersSound k ts) e
-timer-at k (x ∷ ts) e (suc i) = timer-at k ts (and-right (timerSound k x) (timersSound k ts) e) i
 
 -- a stopped one has 0 ticks left
 pub stopped-left : (k : Rows) (x : Timer) → timerSound k x ≡ true → goes (x .state) ≡ false → x .left ≡ 0
@@ -159,8 +152,8 @@ module _ {s : State} (o : Sound s) where
     unfolding tests
     stops-there = leb-false (length (s .timers)) i (passed s (StopTimer i) z .1 .0)
 
-    stop-timer-effect : withTimer (engineOf s) i stoppedRow (stoppedIn (engineOf s .wheel) i) ≡ engineOf (effect s (StopTimer i))
-    stop-timer-effect = unfold effect engineOf in (λ j. record {
+    stop-timer-effect : timerStopped (engineOf s) i .engine ≡ engineOf (effect s (StopTimer i))
+    stop-timer-effect = unfold timerStopped effect engineOf in (λ j. record {
       scheduler = engineOf s .scheduler;
       timers = rows j;
       wheel = (stop-hangs (hungOf (s .count) (s .timers)) (good-hung k (s .count) (s .timers) (o .timers)) i ∙ ap wheelOf lefts) j;
@@ -178,5 +171,11 @@ module _ {s : State} (o : Sound s) where
         rows : set (tabulate 32 (timerIn (s .timers))) (i % 32) stoppedRow ≡ tabulate 32 (timerIn (set (s .timers) i stoppedTimer))
         rows = unfold timerCode in (timer-rows (s .timers) i stoppedTimer stops-there (o .few-timers))
 
+    -- what the wheel says is left is what the definition says
+    stop-timer-given : timerStopped (engineOf s) i .given ≡ given s (StopTimer i)
+    stop-timer-given = unfold timerStopped engineOf given in (
+        left-hung (hungOf (s .count) (s .timers)) (good-hung k (s .count) (s .timers) (o .timers)) i
+        ∙ getD-tabulate 32 (λ j. timer (s .timers) j .left) i 0 (omega (arith, stops-there, o .few-timers)))
+
   pub stop-timer-steps : (i : ℕ) → stopTimerModel (engineOf s) i ≡ steppedOf (stepSound s (StopTimer i))
-  stop-timer-steps i = unfold stopTimerModel in (judged-stands s (StopTimer i) _ _ 255 refl (stop-timer-verdict o i) (λ z. (stop-timer-effect i z, (unfold given in refl), ready-to-choose o (StopTimer i) z)))
+  stop-timer-steps i = unfold stopTimerModel in (judged-stands s (StopTimer i) _ _ _ refl (stop-timer-verdict o i) (λ z. (stop-timer-effect i z, stop-timer-given i z, ready-to-choose o (StopTimer i) z)))

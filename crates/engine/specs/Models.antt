@@ -16,7 +16,7 @@ use Rattle.scheduler.specs.declared.Scheduler.{Scheduler}
 use Rattle.scheduler.specs.Models as scheduler
 use Rattle.wheel.specs.declared.Wheel.{Wheel}
 use Rattle.wheel.specs.Hung as hung
-use Rattle.wheel.specs.Promise.{wheelOf, startedIn, stoppedIn, tickedIn, idsOf, first, rest}
+use Rattle.wheel.specs.Promise.{wheelOf, startedIn, stoppedIn, leftIn, tickedIn, idsOf, first, rest}
 use Rattle.calls.specs.declared.Call.{Call}
 use Rattle.calls.specs.declared.Call.the-variants.{Start, CreateThread, CreateMutex, CreateCondition, CreateTimer, Acquire, Release, Wait, Signal, Broadcast, StartTimer, StopTimer, Tick}
 use Rattle.calls.specs.declared.Kind.{Kind}
@@ -169,9 +169,14 @@ unfoldable pub startTimerModel : Engine → ℕ → ℕ → Kind → Micros → 
 startTimerModel x id c kind v =
     judged (firstOf (idsVerdict (x .started) (x .clocks) id (x .conditions) c) (delayVerdict (lengthOf v) (timerOf x id .state))) x (timerStarted x id c kind (lengthOf v)) 255
 
+-- the engine with timer id stopped, and the ticks that were left to it
+unfoldable pub timerStopped : Engine → ℕ → Effect
+timerStopped x id = record { engine = withTimer x id stoppedRow (stoppedIn (x .wheel) id); given = leftIn (x .wheel) id }
+
 -- stop timer id
 unfoldable pub stopTimerModel : Engine → ℕ → Stepped
-stopTimerModel x id = judged (firstOf (idVerdict (x .started) (x .clocks) id) (stopVerdict (timerOf x id .state))) x (withTimer x id stoppedRow (stoppedIn (x .wheel) id)) 255
+stopTimerModel x id =
+    judged (firstOf (idVerdict (x .started) (x .clocks) id) (stopVerdict (timerOf x id .state))) x (timerStopped x id .engine) (timerStopped x id .given)
 
 -- a timer that has come due is served
 unfoldable pub serveModel : Engine → ℕ → Engine

@@ -15,6 +15,7 @@ use scheduler::Scheduler;
 use units::Length;
 use units::Micros;
 use units::Ticks;
+use units::count_of;
 use units::ticks_of;
 use verdicts::acquire_verdict;
 use verdicts::created_verdict;
@@ -39,7 +40,7 @@ ghost use Rattle.rules.specs.Sound.{sound};
 ghost use Rattle.rules.specs.Step.{step, stepDecoded};
 ghost use Rattle.engine.specs.Stands.{engineOf, steppedOf};
 ghost use Rattle.wheel.specs.Promise.{idsOf};
-ghost use Rattle.engine.specs.Models.{bootModel, kindCode, refusedModel, answeredModel, startModel, createThreadModel, createMutexModel, createConditionModel, createTimerModel, acquireModel, releaseModel, waitModel, signalModel, broadcastModel, startTimerModel, stopTimerModel, serveModel, serveAllModel, tickModel, stepModel};
+ghost use Rattle.engine.specs.Models.{bootModel, kindCode, refusedModel, answeredModel, startModel, createThreadModel, createMutexModel, createConditionModel, createTimerModel, acquireModel, releaseModel, waitModel, signalModel, broadcastModel, startTimerModel, timerStopped, stopTimerModel, serveModel, serveAllModel, tickModel, stepModel};
 
 // A timer's row: its state (0 stopped, 1 one-shot, 2 periodic), its condition variable, 255 for none, and its length in ticks.
 pub struct Timer {
@@ -388,8 +389,29 @@ impl Engine {
         self.answered(255, false)
     }
 
+    // Timer id stopped, and the ticks that were left to it.
+    fn timer_stopped(mut self, id: u8) -> Effect
+        ensures { λ r. ⌜ r ≡ timerStopped self id ⌝ }
+    {
+        let i = (id % 32) as usize;
+        self.timers[i] = Timer {
+            state: 0,
+            condition: 255,
+            length: Ticks(0),
+        };
+        let wheel = self.wheel;
+        let after = wheel.stop(id);
+        let left = wheel.left(id);
+        self.wheel = after;
+        let given = count_of(left);
+        Effect {
+            engine: self,
+            given,
+        }
+    }
+
     // Call 12.
-    fn stop_timer(mut self, id: u8) -> Stepped
+    fn stop_timer(self, id: u8) -> Stepped
         ensures { λ r. ⌜ r ≡ stopTimerModel self id ⌝ }
     {
         let i = (id % 32) as usize;
@@ -401,15 +423,9 @@ impl Engine {
         if n != 0 {
             return self.refused(verdict);
         }
-        self.timers[i] = Timer {
-            state: 0,
-            condition: 255,
-            length: Ticks(0),
-        };
-        let wheel = self.wheel;
-        let after = wheel.stop(id);
-        self.wheel = after;
-        self.answered(255, false)
+        let effect = self.timer_stopped(id);
+        let after = effect.engine;
+        after.answered(effect.given, false)
     }
 
     // Timer id has come due: it signals its condition variable; a periodic one is started again, a one-shot is stopped.

@@ -1,17 +1,19 @@
--- Runs that show what document 01 says besides its marked examples: the mistakes that look right and that none of E1 to E12 breaks, and that deadlock can
--- happen. Of each run what the definitions show, and what is to be seen.
+-- Runs that show what document 01 says besides its marked examples, the mistakes that look right and that none of E1 to E12 breaks, and that deadlock can
+-- happen; and what document 02, L2, says: what a stop gives. Of each run what the definitions show, and what is to be seen.
 -- Assumes nothing.
-use Prim.Native.Nat.{ℕ}
+use Prim.Native.Nat.{ℕ, _*_}
 use mathlib.Core.Bool.{cond}
 use mathlib.Core.List.{List, [], _∷_, _++_}
 use lib.ListN.{getD}
 use Rattle.calls.specs.declared.Call.{Call}
-use Rattle.calls.specs.declared.Call.the-variants.{Start, CreateThread, CreateMutex, CreateCondition, Acquire, Wait, Broadcast, Tick}
+use Rattle.calls.specs.declared.Call.the-variants.{Start, CreateThread, CreateMutex, CreateCondition, Acquire, Wait, Broadcast, StartTimer, StopTimer, Tick}
+use Rattle.calls.specs.declared.Kind.{Kind}
+use Rattle.calls.specs.declared.Kind.the-variants.{OneShot, Periodic}
 use Rattle.rules.specs.Queues.{emptySet, queue}
-use Rattle.rules.specs.State.{boot}
+use Rattle.rules.specs.State.{State, boot}
 use Rattle.rules.specs.Sound.{sound}
 use Rattle.rules.specs.Step.{Stepped, runner}
-use Rattle.rules.specs.Examples.{Example, from, answer}
+use Rattle.rules.specs.Examples.{Example, from, answer, alone, times, atCount}
 
 -- the running thread and who waits for mutex 0 at priority p
 unfoldable pub runnerAndWaiters : ℕ → Stepped → List ℕ
@@ -29,6 +31,14 @@ bothWait = CreateThread 2 ∷ CreateThread 2 ∷ CreateMutex 6 ∷ CreateConditi
 unfoldable pub equalsSliced : List Call
 equalsSliced = CreateThread 4 ∷ CreateThread 4 ∷ CreateMutex 4 ∷ CreateMutex 4 ∷ Start ∷ Acquire 0 ∷ Tick ∷ []
 
+-- thread 1 starts timer 0 with a length of n ticks, at tick count at
+unfoldable pub timed : Kind → ℕ → ℕ → State
+timed kind n at = from (atCount at (from boot (alone 3) .state)) (StartTimer 0 0 kind (record { 0 = n * 1000 }) ∷ []) .state
+
+-- the answer to its stop after so many ticks
+unfoldable pub stopAfter : ℕ → State → List ℕ
+stopAfter ticks s = answer (from s (times ticks Tick ++ (StopTimer 0 ∷ [])))
+
 -- the table
 unfoldable pub further : List Example
 further =
@@ -38,4 +48,15 @@ further =
     -- "never blocks on a mutex of its own priority"? thread 2 waits, and thread 1 runs
     ∷ record { shown = runnerAndWaiters 4 (from boot (equalsSliced ++ (Acquire 0 ∷ []))); seen = 1 ∷ 2 ∷ [] }
     -- mutexes waited for in a ring: each thread takes the other's, thread 0 runs, and the state is sound
-    ∷ record { shown = soundAndAnswer (from boot (equalsSliced ++ (Acquire 1 ∷ Tick ∷ Acquire 1 ∷ Acquire 0 ∷ []))); seen = 1 ∷ 0 ∷ 255 ∷ 0 ∷ [] } ∷ []
+    ∷ record { shown = soundAndAnswer (from boot (equalsSliced ++ (Acquire 1 ∷ Tick ∷ Acquire 1 ∷ Acquire 0 ∷ []))); seen = 1 ∷ 0 ∷ 255 ∷ 0 ∷ [] }
+    -- a stop gives the ticks left before it: the length at once, which may be the longest, and one fewer for each tick
+    ∷ record { shown = stopAfter 0 (timed OneShot 65535 0); seen = 0 ∷ 65535 ∷ 1 ∷ [] }
+    ∷ record { shown = stopAfter 0 (timed OneShot 257 0); seen = 0 ∷ 257 ∷ 1 ∷ [] }
+    ∷ record { shown = stopAfter 1 (timed OneShot 257 0); seen = 0 ∷ 256 ∷ 1 ∷ [] }
+    ∷ record { shown = stopAfter 2 (timed Periodic 257 0); seen = 0 ∷ 255 ∷ 1 ∷ [] }
+    -- 1 after all ticks but the one at which it is due; at that one a periodic one has its length again, and a one-shot is stopped, which is 14
+    ∷ record { shown = stopAfter 2 (timed Periodic 3 0); seen = 0 ∷ 1 ∷ 1 ∷ [] }
+    ∷ record { shown = stopAfter 3 (timed Periodic 3 0); seen = 0 ∷ 3 ∷ 1 ∷ [] }
+    ∷ record { shown = stopAfter 3 (timed OneShot 3 0); seen = 14 ∷ 255 ∷ 1 ∷ [] }
+    -- across the count's wrap
+    ∷ record { shown = stopAfter 3 (timed OneShot 5 4294967294); seen = 0 ∷ 2 ∷ 1 ∷ [] } ∷ []

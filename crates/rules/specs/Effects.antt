@@ -11,7 +11,7 @@ use Rattle.calls.specs.declared.Call.the-variants.{Start, CreateThread, CreateM
 use Rattle.calls.specs.declared.Kind.{Kind}
 use Rattle.calls.specs.declared.Kind.the-variants.{OneShot, Periodic}
 use Rattle.rules.specs.Queues.{First, nobody, somebody, emptySet}
-use Rattle.rules.specs.State.{ready, forMutex, onCondition, TimerState, stopped, oneShot, periodic, Timer, Scheduler, State, stoppedTimer, mutex, tied, withThreads, withMutexes, withTies, withStarted, withRows, own, tie, firstAt, arrive, depart}
+use Rattle.rules.specs.State.{ready, forMutex, onCondition, TimerState, stopped, oneShot, periodic, Timer, Scheduler, State, stoppedTimer, mutex, tied, timer, withThreads, withMutexes, withTies, withStarted, withRows, own, tie, firstAt, arrive, depart}
 use Rattle.rules.specs.Next.{runFirst}
 
 -- ---- 2 to 4: creating; a new id is the number of those there are
@@ -177,7 +177,8 @@ effect s Tick = record {
   timers = map ticked (s .timers);
 }
 
--- the new id for 2 to 5, threads that left the condition variable for 9 and 10, timers expired for 13, else 255
+-- the new id for 2 to 5, threads that left the condition variable for 9 and 10, the ticks left to the timer before it is stopped for 12 (document 02,
+-- L2), timers expired for 13, else 255
 unfoldable pub given : State → Call → ℕ
 given s Start = 255
 given s (CreateThread base) = length (s .scheduler .rows .threads)
@@ -190,5 +191,5 @@ given s (Wait c m) = 255
 given s (Signal c) = leaver (firstAt (s .scheduler) (onCondition c))
 given s (Broadcast c) = leavers 32 (s .scheduler) c
 given s (StartTimer i c kind v) = 255
-given s (StopTimer i) = 255
+given s (StopTimer i) = timer (s .timers) i .left
 given s Tick = length (dueConditions (s .timers))

@@ -1,6 +1,6 @@
 -- Rows one after the other, and the sum of their answers.
 -- Assumes nothing.
-use Prim.Native.Nat.{ℕ, zero, suc, _+_, _*_, _/_, _%_, _^_}
+use Prim.Native.Nat.{ℕ, zero, suc, _+_, _*_, _/_, _%_, _^_, _<_}
 use mathlib.Core.List.{List}
 use lib.ListN.{length, take, drop}
 use Rattle.calls.specs.declared.Answer.{Answer}
@@ -16,9 +16,14 @@ use Rattle.tally.specs.declared.Tally.{Tally}
 abbrev pub tallyIn : List ℕ → Clock → Counts → ℕ → Tally
 tallyIn k t n sum = record { engine = engineIn k t n; sum = sum }
 
--- an answer as one number
+-- an answer as the code has it: given in 16 bits, running in 8
+pub record Fits (answer : Answer) : Type 0 where
+  pub given : answer .given < 65536
+  pub running : answer .running < 256
+
+-- an answer as one number: no two answers that fit come to the same
 abbrev pub weight : Answer → ℕ
-weight answer = answer .number * 65536 + answer .given * 256 + answer .running
+weight answer = answer .number * 16777216 + answer .given * 256 + answer .running
 
 -- one row more
 unfoldable pub tallyRow : Tally → List ℕ → Tally

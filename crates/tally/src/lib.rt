@@ -30,14 +30,20 @@ struct Tallied {
     sum: u64,
 }
 
-// A sum with one answer more: its number, given and running, 256 to one.
+// What given counts in a sum, above the 8 bits of running.
+const GIVEN: u64 = 256;
+
+// What the number of an answer counts in a sum, above the 16 bits of given.
+const NUMBER: u64 = 16777216;
+
+// A sum with one answer more.
 fn add(sum: u64, answer: Answer) -> u64
     ensures { λ r. ⌜ r ≡ (sum + weight answer) % 2 ^ 64 ⌝ }
 {
     let number = answer.number as u64;
     let given = answer.given as u64;
     let running = answer.running as u64;
-    wrapping_add_u64(sum, number * 65536 + given * 256 + running)
+    wrapping_add_u64(sum, number * NUMBER + given * GIVEN + running)
 }
 
 // All whole rows, in order. The clock is copied for a call on timers only.

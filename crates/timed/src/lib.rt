@@ -13,6 +13,7 @@ use plain::refuse;
 use units::Length;
 use units::Micros;
 use units::Ticks;
+use units::count_of;
 use units::ticks_of;
 use verdicts::first_of;
 use verdicts::id_verdict;
@@ -20,12 +21,14 @@ use verdicts::ids_verdict;
 use verdicts::start_timer_verdict;
 use verdicts::stop_verdict;
 use wheel::Due;
+ghost use Prim.Native.Nat.{ℕ};
 ghost use mathlib.Core.Path.{_≡_};
+ghost use mathlib.Core.List.{List};
 ghost use Rattle.wheel.specs.Promise.{idsOf};
-ghost use Rattle.engine.specs.Models.{startTimerModel, stopTimerModel, serveAllModel, tickModel};
+ghost use Rattle.engine.specs.Models.{startTimerModel, timerStopped, stopTimerModel, serveAllModel, tickModel};
 ghost use Rattle.plain.specs.declared.Counts.{Counts};
 ghost use Rattle.plain.specs.Standing.{engineIn, steppedIn};
-ghost use Rattle.timed.specs.Serving.{servedIn};
+ghost use Rattle.timed.specs.Effects.{effectIn};
 
 // The timers, wheel and tick count that follow, and the answer.
 pub struct Timed {
@@ -33,8 +36,8 @@ pub struct Timed {
     pub answer: Answer,
 }
 
-// The timers, wheel and tick count that follow, and how many timers were served.
-struct Served {
+// The timers, wheel and tick count that follow, and what is given.
+struct Effect {
     clock: Clock,
     given: u16,
 }
@@ -79,8 +82,26 @@ pub fn start_timer(
     Timed { clock, answer }
 }
 
+// Timer id stopped, and the ticks that were left to it.
+fn timer_stopped(mut clock: Clock, id: u8) -> Effect
+    ensures { λ r. ⌜ ((cells : List ℕ) (counts : Counts) → effectIn cells (r .clock) counts (r .given) ≡ timerStopped (engineIn cells clock counts) id) ⌝ }
+{
+    let i = (id % 32) as usize;
+    clock.timers[i] = Timer {
+        state: 0,
+        condition: 255,
+        length: Ticks(0),
+    };
+    let wheel = clock.wheel;
+    let after = wheel.stop(id);
+    let left = wheel.left(id);
+    clock.wheel = after;
+    let given = count_of(left);
+    Effect { clock, given }
+}
+
 // Call 12.
-pub fn stop_timer(cells: &mut [u8; 1281], mut clock: Clock, counts: Counts, id: u8) -> Timed
+pub fn stop_timer(cells: &mut [u8; 1281], clock: Clock, counts: Counts, id: u8) -> Timed
     ensures { λ r. ⌜ steppedIn (now (cells .exit)) (r .clock) counts (r .answer) ≡ stopTimerModel (engineIn (now (cells .entry)) clock counts) id ⌝ }
 {
     let i = (id % 32) as usize;
@@ -93,21 +114,18 @@ pub fn stop_timer(cells: &mut [u8; 1281], mut clock: Clock, counts: Counts, id: 
         let answer = refuse(cells, verdict);
         return Timed { clock, answer };
     }
-    clock.timers[i] = Timer {
-        state: 0,
-        condition: 255,
-        length: Ticks(0),
-    };
-    let wheel = clock.wheel;
-    let after = wheel.stop(id);
-    clock.wheel = after;
-    let answer = finish(cells, counts, 255, false);
-    Timed { clock, answer }
+    let effect = timer_stopped(clock, id);
+    let later = effect.clock;
+    let answer = finish(cells, counts, effect.given, false);
+    Timed {
+        clock: later,
+        answer,
+    }
 }
 
 // The timers that have come due are served in order of id: each signals its condition variable, a periodic one is hung again, a one-shot is stopped.
-fn serve_all(cells: &mut [u8; 1281], clock: Clock, due: Due) -> Served
-    ensures { λ r. ⌜ ((counts : Counts) → servedIn (now (cells .exit)) (r .clock) counts (r .given) ≡ serveAllModel 32 0 (engineIn (now (cells .entry)) clock counts) (idsOf due)) ⌝ }
+fn serve_all(cells: &mut [u8; 1281], clock: Clock, due: Due) -> Effect
+    ensures { λ r. ⌜ ((counts : Counts) → effectIn (now (cells .exit)) (r .clock) counts (r .given) ≡ serveAllModel 32 0 (engineIn (now (cells .entry)) clock counts) (idsOf due)) ⌝ }
 {
     let mut timers = clock.timers;
     let mut wheel = clock.wheel;
@@ -136,7 +154,7 @@ fn serve_all(cells: &mut [u8; 1281], clock: Clock, due: Due) -> Served
         wheel,
         count: clock.count,
     };
-    Served { clock, given }
+    Effect { clock, given }
 }
 
 // Call 13.

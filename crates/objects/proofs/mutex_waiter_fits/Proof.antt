@@ -16,7 +16,10 @@ implied-requires c κs = search needs
 
 returns : tie.Need-returns
 unfolding mutexWaiterFits whereOf
-returns c = cc
+returns c =
+    let at-both = c .before in
+    let at-stands = at-both .before .before .before in
+    rw (c .implied .ensures, at-both .both .ensures, at-stands .stands .ensures)
 
 pub mutex-waiter-fits-spec : {M : Type 1} → statement M
 mutex-waiter-fits-spec = tie.close (tie.spec stands-requires both-requires implied-requires returns)

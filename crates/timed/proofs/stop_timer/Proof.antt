@@ -1,7 +1,9 @@
 -- `stop_timer` meets its contract: by its verdict, and each call by its own. Assumes nothing.
-use mathlib.Core.Path.{_∙_}
+use mathlib.Core.Path.{refl, ap, _∙_}
+use mathlib.Core.Bool.{false}
 use Rattle.verdicts.specs.Models.{firstOf}
-use Rattle.engine.specs.Models.{stopTimerModel, withTimer, stoppedRow}
+use Rattle.engine.specs.declared.Effect.{Effect}
+use Rattle.engine.specs.Models.{answeredModel, timerStopped, stopTimerModel}
 use Rattle.plain.specs.Standing.{engineIn}
 use Rattle.plain.proofs.Judging.{refused, accepted}
 use borrow.Author.Needs.{needs}
@@ -35,20 +37,19 @@ refuse-requires c κs = search needs
 returns : tie.Need-returns
 unfolding stopTimerModel
 returns c =
-    let a = c .before .before .before .before .before .before .before .before .args in
+    let tested = c .before .before in
+    let at-number = tested .before in
+    let at-first-of = at-number .before in
+    let at-stop-verdict = at-first-of .before in
+    let at-id-verdict = at-stop-verdict .before in
+    let a = at-id-verdict .before .before .args in
     let x = engineIn (a .cells .now) (a .t2) (a .counts) in
-    refused x 255 _ _ _ (c .before .before .before .number .ensures)
-    (c .before .before .before .before .first-of .ensures ∙ (λ i. firstOf (c .before .before .before .before .before .before .id-verdict .ensures i) (c .before .before .before .before .before .stop-verdict .ensures i)))
-    _ _ (c .refuse .ensures) (c .before .before .if1 .taken)
+    refused x (timerStopped x (a .id) .given) _ _ _ (at-number .number .ensures)
+    (at-first-of .first-of .ensures ∙ (λ i. firstOf (at-id-verdict .id-verdict .ensures i) (at-stop-verdict .stop-verdict .ensures i)))
+    _ _ (c .refuse .ensures) (tested .if1 .taken)
 
-mul-t17 : tie.Need-mul-t17
-mul-t17 c = search needs
-
-element-set-from-clock : tie.Need-element-set-from-clock
-element-set-from-clock c = search needs
-
-stop-requires : tie.Need-stop-requires
-stop-requires c κs = search needs
+timer-stopped-requires : tie.Need-timer-stopped-requires
+timer-stopped-requires c κs = search needs
 
 finish-requires : tie.Need-finish-requires
 finish-requires c κs = search needs
@@ -56,13 +57,18 @@ finish-requires c κs = search needs
 returns-2 : tie.Need-returns-2
 unfolding stopTimerModel
 returns-2 c =
-    let a = c .before .before .before .before .before .before .before .before .before .before .args in
+    let at-stopped = c .before .before .before in
+    let tested = at-stopped .before in
+    let at-number = tested .before in
+    let at-first-of = at-number .before in
+    let at-stop-verdict = at-first-of .before in
+    let at-id-verdict = at-stop-verdict .before in
+    let a = at-id-verdict .before .before .args in
     let x = engineIn (a .cells .now) (a .t2) (a .counts) in
-    accepted x 255 _ _ _ (c .before .before .before .before .before .number .ensures)
-    (c .before .before .before .before .before .before .first-of .ensures ∙ (λ i. firstOf (c .before .before .before .before .before .before .before .before .id-verdict .ensures i) (c .before .before .before .before .before .before .before .stop-verdict .ensures i)))
-    _ _ _ (c .finish .ensures _)
-    (λ i. withTimer x (a .id) stoppedRow (c .before .before .stop .ensures .0 i))
-    (c .before .before .before .before .if1 .left)
+    accepted x (timerStopped x (a .id) .given) _ _ _ (at-number .number .ensures)
+    (at-first-of .first-of .ensures ∙ (λ i. firstOf (at-id-verdict .id-verdict .ensures i) (at-stop-verdict .stop-verdict .ensures i)))
+    _ _ _ (c .finish .ensures _ ∙ ap (λ (e : Effect). answeredModel (e .engine) (e .given) false) (at-stopped .timer-stopped .ensures (a .cells .now) (a .counts)))
+    refl (tested .if1 .left)
 
 pub stop-timer-spec : {M : Type 1} → statement M
 stop-timer-spec =
@@ -77,8 +83,6 @@ stop-timer-spec =
     number-requires
     refuse-requires
     returns
-    mul-t17
-    element-set-from-clock
-    stop-requires
+    timer-stopped-requires
     finish-requires
     returns-2)

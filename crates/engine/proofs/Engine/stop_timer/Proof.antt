@@ -39,14 +39,8 @@ returns c =
     let at-id-verdict = at-stop-verdict .before in
     rw (← at-id-verdict .id-verdict .ensures, ← at-stop-verdict .stop-verdict .ensures, ← at-first-of .first-of .ensures, ← at-number .number .ensures, ne-eqb _ _ (tested .if1 .taken)) (c .refused .ensures)
 
-mul-t13 : tie.Need-mul-t13
-mul-t13 c = search needs
-
-element-set-from-self : tie.Need-element-set-from-self
-element-set-from-self c = search needs
-
-stop-requires : tie.Need-stop-requires
-stop-requires c κs = search needs
+timer-stopped-requires : tie.Need-timer-stopped-requires
+timer-stopped-requires c κs = search needs
 
 answered-requires : tie.Need-answered-requires
 answered-requires c κs = search needs
@@ -54,13 +48,13 @@ answered-requires c κs = search needs
 returns-2 : tie.Need-returns-2
 unfolding stopTimerModel
 returns-2 c =
-    let at-stop = c .before in
-    let tested = at-stop .before .before in
+    let at-stopped = c .before .before in
+    let tested = at-stopped .before in
     let at-number = tested .before in
     let at-first-of = at-number .before in
     let at-stop-verdict = at-first-of .before in
     let at-id-verdict = at-stop-verdict .before in
-    rw (← at-id-verdict .id-verdict .ensures, ← at-stop-verdict .stop-verdict .ensures, ← at-first-of .first-of .ensures, ← at-number .number .ensures, eq-eqb _ _ (tested .if1 .left), ← at-stop .stop .ensures .0) (c .answered .ensures)
+    rw (← at-id-verdict .id-verdict .ensures, ← at-stop-verdict .stop-verdict .ensures, ← at-first-of .first-of .ensures, ← at-number .number .ensures, eq-eqb _ _ (tested .if1 .left), ← at-stopped .timer-stopped .ensures) (c .answered .ensures)
 
 pub stop-timer-spec : {M : Type 1} → statement M
 stop-timer-spec =
@@ -75,8 +69,6 @@ stop-timer-spec =
     number-requires
     refused-requires
     returns
-    mul-t13
-    element-set-from-self
-    stop-requires
+    timer-stopped-requires
     answered-requires
     returns-2)
