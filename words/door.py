@@ -35,6 +35,7 @@ DONE, NOT_DONE = 0, 2
 LAST_TICK = 4_294_967_295
 HELP = ("help", "--help", "-h")
 ENDS = (signal.SIGINT, signal.SIGTERM, signal.SIGHUP)
+A_MOMENT = 0.001
 
 
 class WrongUse(Exception):
@@ -46,8 +47,9 @@ class WrongUse(Exception):
         self.word = word
 
 
-class Stopped(Exception):
-    """A signal that ends the word."""
+class Stopped(BaseException):
+    """A signal that ends the word; it is no fault, so nothing that takes
+    faults takes it."""
 
     def __init__(self, number: int) -> None:
         """The signal's number."""
@@ -63,9 +65,22 @@ def stop(number: int, frame: object) -> NoReturn:
     raise Stopped(number)
 
 
+def stop_again(lost: sys.UnraisableHookArgs) -> None:
+    """Python drops what is raised while it frees an object: a stop that was
+    lost so comes again in a moment. Anything else is said, as before."""
+    stopped = lost.exc_value
+    if not isinstance(stopped, Stopped):
+        sys.__unraisablehook__(lost)
+        return
+    number = stopped.number
+    signal.signal(signal.SIGALRM, lambda _, frame: stop(number, frame))
+    signal.setitimer(signal.ITIMER_REAL, A_MOMENT)
+
+
 def hear_signals() -> None:
     """Let signals end the word in order, where they are not ignored. An
     interrupt is held back by ./tehuamozo until here."""
+    sys.unraisablehook = stop_again
     for number in ENDS:
         if signal.getsignal(number) is not signal.SIG_IGN:
             signal.signal(number, stop)

@@ -14,6 +14,7 @@ from __future__ import annotations
 import contextlib
 import os
 import re
+import subprocess
 import sys
 import tempfile
 import unittest
@@ -42,6 +43,26 @@ BOOT = bytes.fromhex(
 # The header says as many bytes as there are: 24, 4 for each of 32 threads,
 # 16 mutexes and 16 condition variables, and 8 for each of 32 timers.
 LONGEST = 536
+# A word that lasts, and an object of it in whose end the signal comes.
+LOST = """
+import signal, time
+import door
+
+class Freed:
+    def __del__(self):
+        signal.raise_signal(signal.{name})
+
+def last(words):
+    Freed()
+    time.sleep(20)
+
+door.do = last
+door.os._exit(door.main())
+"""
+# The same with a fault, which is no signal.
+FAULT = LOST.replace("signal.raise_signal(signal.{name})", "1 // 0").replace(
+    "time.sleep(20)", "return 0"
+)
 
 
 @contextlib.contextmanager
@@ -374,6 +395,32 @@ class Inputs(Folder):
     def test_all_there(self) -> None:
         """Rows that are all there have their size."""
         self.assertEqual(all_there(b"12345678", "x").size, 8)
+
+
+class Signals(unittest.TestCase):
+    """Signals at a moment when Python drops what is raised."""
+
+    def door(self, script: str) -> subprocess.CompletedProcess[str]:
+        """What becomes of the door with another word."""
+        return subprocess.run(
+            [sys.executable, "-B", "-c", script], cwd=Path(__file__).parent,
+            capture_output=True, text=True, check=False, timeout=15,
+        )
+
+    def test_lost(self) -> None:
+        """One that comes while an object is freed ends the word."""
+        for name, status, said in (
+            ("SIGINT", 130, "tehuamozo: interrupted\n"),
+            ("SIGTERM", 143, "tehuamozo: ended by SIGTERM\n"),
+        ):
+            done = self.door(LOST.replace("{name}", name))
+            self.assertEqual((done.returncode, done.stderr), (status, said))
+
+    def test_fault(self) -> None:
+        """A fault there is said."""
+        done = self.door(FAULT)
+        self.assertEqual(done.returncode, 0)
+        self.assertIn("ZeroDivisionError", done.stderr)
 
 
 class Words(unittest.TestCase):
