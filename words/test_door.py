@@ -43,7 +43,8 @@ BOOT = bytes.fromhex(
 # The header says as many bytes as there are: 24, 4 for each of 32 threads,
 # 16 mutexes and 16 condition variables, and 8 for each of 32 timers.
 LONGEST = 536
-# A word that lasts, and an object of it in whose end the signal comes.
+# A word that lasts, and an object of it in whose end the signal comes, which
+# a job in the background would ignore.
 LOST = """
 import signal, time
 import door
@@ -56,13 +57,14 @@ def last(words):
     Freed()
     time.sleep(20)
 
+signal.signal(signal.{name}, signal.SIG_DFL)
 door.do = last
 door.os._exit(door.main())
 """
 # The same with a fault, which is no signal.
 FAULT = LOST.replace("signal.raise_signal(signal.{name})", "1 // 0").replace(
     "time.sleep(20)", "return 0"
-)
+).replace("{name}", "SIGINT")
 
 
 @contextlib.contextmanager
