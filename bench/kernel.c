@@ -405,23 +405,30 @@ static uint8_t call_broadcast(struct kernel *k, uint8_t condition, uint16_t *giv
     return DONE;
 }
 
+/* The ticks to the first expiry: rounded up, and one for the tick in progress. */
+static uint32_t ticks_of(uint32_t microseconds)
+{
+    return microseconds / MICROSECONDS_A_TICK + (microseconds % MICROSECONDS_A_TICK != 0) + 1;
+}
+
 /* Call 11. */
 static uint8_t call_start_timer(struct kernel *k, struct call call)
 {
-    uint32_t length = call.v / MICROSECONDS_A_TICK;
+    uint32_t first = ticks_of(call.v);
     struct timer *t;
 
     if (call.a >= k->timers || call.b >= k->conditions)
         return NO_SUCH_ID;
-    if (length < 1 || length > LARGEST_LENGTH)
+    if (first > LARGEST_LENGTH)
         return OUT_OF_RANGE;
     t = &k->timer[call.a];
     if (t->state != NOT_RUNNING)
         return TIMER_RUNS;
     t->state = call.kind == 0 ? ONE_SHOT : PERIODIC;
     t->condition = call.b;
-    t->length = (uint16_t)length;
-    hang(k, call.a, length);
+    /* A periodic timer repeats a tick sooner, but never after none. */
+    t->length = (uint16_t)(t->state == PERIODIC && first > 1 ? first - 1 : first);
+    hang(k, call.a, first);
     return DONE;
 }
 

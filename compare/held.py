@@ -110,6 +110,27 @@ def run_many(lines: Iterable[Tuple[str, ...]], room: Path) -> None:
     run_second("run.py", "--many", str(listed))
 
 
+def count_unmet(what: str, lines: Iterable[str], room: Path) -> int:
+    """Print which wanted edges are met; how many are not.
+
+    What is `calls`, with lines of CALLS and START, or `records`, with paths.
+    """
+    listed = room / "list"
+    listed.write_text("".join(f"{line}\n" for line in lines))
+    edges: Dict[str, int] = {}
+    for line in run_second("met.py", what, str(listed)).decode().splitlines():
+        times, name = line.split(" ", 1)
+        edges[name] = int(times)
+    missing = [name for name, times in edges.items() if not times]
+    print(f"edges of the rules for timers met: {len(edges) - len(missing)} of "
+          f"{len(edges)}, each in {min(edges.values(), default=0)} files or "
+          "more")
+    for name in missing:
+        print(f"not met, and counted as failed: {name}")
+    # With nothing asked for, nothing was shown.
+    return len(missing) + (not edges)
+
+
 def first_difference(got: bytes, want: bytes) -> str:
     """The first line in which two texts differ."""
     for one, other in zip(got.split(b"\n"), want.split(b"\n")):

@@ -8,9 +8,10 @@ one line, `N ANSWER LENGTH`: its number from 1, load's answer, and the length
 of the save of what load handed back. With a second argument it writes those
 saves one after the other into that file. A record that loads saves to the
 same bytes, and one that is refused leaves the boot state. The answers are
-held against those of reference/check.py, and 0, 1 and 15 must all be met. The
-last line is `N passed, M failed`; the exit status is 0 only if something ran
-and M is 0, and 2 for wrong use.
+held against those of reference/check.py; 0, 1 and 15 must all be met, and so
+must the edges of the rules for timers that reference/met.py names. The last
+line is `N passed, M failed`; the exit status is 0 only if something ran and M
+is 0, and 2 for wrong use.
 """
 
 from __future__ import annotations
@@ -21,8 +22,8 @@ from pathlib import Path
 from typing import List, NamedTuple, Sequence, Tuple
 
 from held import (
-    command_of, compare_program, generate, print_answers, run_program,
-    run_second, text_differs,
+    command_of, compare_program, count_unmet, generate, print_answers,
+    run_program, run_second, text_differs,
 )
 
 USAGE = "usage: records.py PROGRAM [COUNT [SEED]]"
@@ -122,6 +123,7 @@ def compare(
     print(f"seed {seed}: {len(files)} records")
     passed = judge_records(done.text, saves, wanted)
     failed = count_rest(done.text, saves, again, wanted)
+    failed += count_unmet("records", map(str, files), room)
     return passed, count - passed + failed
 
 

@@ -9,10 +9,11 @@ run on each, and their texts and their last records are compared byte by byte;
 where the start is refused, neither may write a last record. How often each
 answer number was met is printed, and each that a run can give must be met; so
 must stops that give 1, 255, 256, 257 and 65,535, stops of timers that ran
-across the wrap of the tick count, refused starts, and files of more rows than
-the program reads at a time, from boot and from records: a small COUNT fails by
-that. The last line is `N passed, M failed`; the exit status is 0 only if
-something ran and M is 0, and 2 for wrong use.
+across the wrap of the tick count, the edges of the rules for timers that
+reference/met.py names, refused starts, and files of more rows than the program
+reads at a time, from boot and from records: a small COUNT fails by that. The
+last line is `N passed, M failed`; the exit status is 0 only if something ran
+and M is 0, and 2 for wrong use.
 """
 
 from __future__ import annotations
@@ -24,8 +25,8 @@ from typing import Counter as CounterOf
 from typing import Dict, Iterator, List, NamedTuple, Sequence, Tuple
 
 from held import (
-    answers_in, command_of, compare_program, count_passed, generate,
-    print_answers, run_many, run_program, text_differs,
+    answers_in, command_of, compare_program, count_passed, count_unmet,
+    generate, print_answers, run_many, run_program, text_differs,
 )
 
 USAGE = "usage: run.py PROGRAM [COUNT [SEED]]"
@@ -206,7 +207,8 @@ def compare(
     records = len(runs) - boot
     print(f"seed {seed}: {boot} files from boot, {records} from records")
     missing = count_missing(runs) + count_unmet_stops(runs)
-    missing += count_short(runs)
+    edges = (f"{run.calls} {run.start}" for run in runs)
+    missing += count_unmet("calls", edges, room) + count_short(runs)
     passed = count_passed(lambda run: judge_run(command, run), runs)
     # A file that was asked for and not made has failed as well.
     return passed, count - passed + missing

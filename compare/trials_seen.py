@@ -122,7 +122,7 @@ def tells_what_was_left(room: Path) -> bool:
         part.text for part in ElementTree.parse(room / "one.svg").iter()
         if part.tag.endswith("text")
     }
-    left = ("288 ticks left", "255 ticks left", "1 tick left")
+    left = ("289 ticks left", "255 ticks left", "1 tick left")
     return (
         said.status == 0 and done == Done(0, b"", b"")
         and all(f"  done, {words}  " in lines for words in left)

@@ -402,7 +402,7 @@ BOUNDS: Sequence[Trial] = [
         ("acquire 256", "0 to 15"),
         ("signal 256", "0 to 15"),
         ("stop timer 256", "0 to 31"),
-        ("start timer 0 0 periodic 4294967296", "1000 to 65535999"),
+        ("start timer 0 0 periodic 4294967296", "0 to 65534000"),
     )
 ]
 

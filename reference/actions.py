@@ -11,13 +11,14 @@ from typing import Callable, List, Optional, Protocol, Tuple
 
 from book import Book
 from chance import Chance
+from edges import ACCEPTED_DELAYS, REFUSED_DELAYS
 from rows import NAMED, make_row
 from words import (
     ACQUIRE, BROADCAST, CONDITION_VARIABLES, CREATE_CONDITION_VARIABLE,
-    CREATE_MUTEX, CREATE_THREAD, CREATE_TIMER, IDLE, LONGEST_LENGTH, MUTEXES,
-    NONE, RELEASE, SIGNAL, START, START_TIMER, STOP_TIMER, THREADS, TICK,
-    TIMERS, TIMER_STOPPED, WAIT, WAITS_FOR_MUTEX, WAITS_ON_CONDITION_VARIABLE,
-    Call, delay_of,
+    CREATE_MUTEX, CREATE_THREAD, CREATE_TIMER, IDLE, MUTEXES, NONE, RELEASE,
+    SIGNAL, START, START_TIMER, STOP_TIMER, THREADS, TICK, TIMERS,
+    TIMER_STOPPED, WAIT, WAITS_FOR_MUTEX, WAITS_ON_CONDITION_VARIABLE, Call,
+    delay_of,
 )
 
 
@@ -36,7 +37,11 @@ class Place(Protocol):
 
 Action = Callable[[Place], Optional[bytes]]
 
-LENGTHS = (1, 1, 2, 2, 3, 5, 62, 63, 64, 65, 127, 128, 129, 192, 65_535)
+# About whole turns of the spokes there is one more on top, since the repeat of
+# a periodic timer is one tick shorter than its length.
+LENGTHS = (
+    1, 1, 2, 2, 3, 5, 62, 63, 64, 65, 66, 127, 128, 129, 130, 192, 193, 65_535,
+)
 LONGEST_BURST = 70
 
 
@@ -261,12 +266,14 @@ def broadcast_any(place: Place) -> Optional[bytes]:
 
 
 def some_delay_of(place: Place, length: int) -> int:
-    """A delay of this length, whole or with a rest."""
+    """A delay of this length, whole ticks or rounded up to them."""
     return delay_of(length, place.chance.pick((0, 1, 500, 999)))
 
 
 def microseconds(place: Place) -> int:
-    """A delay around the lengths at which something changes."""
+    """A delay at an edge, or one around lengths where something changes."""
+    if place.chance.percent(20):
+        return place.chance.pick(ACCEPTED_DELAYS)
     length = place.chance.pick(LENGTHS)
     if place.chance.percent(20):
         length = place.chance.between(1, 200)
@@ -314,11 +321,10 @@ def start_timer_again(place: Place) -> Optional[bytes]:
 
 
 def start_timer_outside(place: Place) -> Optional[bytes]:
-    """Start a timer with a length outside its limits."""
-    beyond = delay_of(LONGEST_LENGTH + 1)
-    delay = place.chance.pick((0, 1, 999, beyond, beyond + 1, 0xFFFFFFFF))
+    """Start a timer, running or not, with a delay that is too long."""
     return start_timer_on(
-        place, list(range(len(place.book.timers))), delay
+        place, list(range(len(place.book.timers))),
+        place.chance.pick(REFUSED_DELAYS),
     )
 
 
@@ -384,7 +390,10 @@ def missing_id(place: Place) -> Optional[bytes]:
         call(SIGNAL, condition_variable + beyond),
         call(BROADCAST, condition_variable + beyond),
         call(START_TIMER, timer + beyond, near, 0, microseconds(place)),
-        call(START_TIMER, near, condition_variable + beyond, 1, 999),
+        call(
+            START_TIMER, near, condition_variable + beyond, 1,
+            chance.pick(REFUSED_DELAYS),
+        ),
         call(STOP_TIMER, timer + beyond),
     ))
 

@@ -20,7 +20,7 @@ from words import (
     OWNS_MORE, READY, RELEASE, RUNNING, SCHEDULER_STOPPED, SIGNAL, START,
     START_TIMER, STOP_TIMER, TABLE_FULL, THREADS, TICK, TIED_TO_ANOTHER,
     TIMERS, TIMER_RUNS, TIMER_STANDS, TIMER_STOPPED, WAIT, WAITS_FOR_MUTEX,
-    WAITS_ON_CONDITION_VARIABLE, Answer, Call, length_of,
+    WAITS_ON_CONDITION_VARIABLE, Answer, Call, length_of, repeat_of,
 )
 
 
@@ -52,7 +52,10 @@ class ConditionVariable:
 
 @dataclass
 class Timer:
-    """A timer: stopped or of a kind, whom it signals, length and due tick."""
+    """A timer: stopped or of a kind, whom it signals, length and due tick.
+
+    The length of a periodic timer is its repeat, as in the record.
+    """
 
     state: int = TIMER_STOPPED
     condition_variable: int = NONE
@@ -190,8 +193,8 @@ def priority_outside(book: Book, call: Call) -> bool:
 
 
 def length_outside(book: Book, call: Call) -> bool:
-    """6, for the length of a timer."""
-    return not 1 <= length_of(call.v) <= LONGEST_LENGTH
+    """6, for the length of a timer, which is never below 1."""
+    return length_of(call.v) > LONGEST_LENGTH
 
 
 def table_full(book: Book, call: Call) -> bool:
@@ -411,12 +414,12 @@ def broadcast(book: Book, call: Call) -> int:
 
 
 def start_timer(book: Book, call: Call) -> int:
-    """11: due once the length has passed."""
-    timer = book.timers[call.a]
+    """11: first due once the length has passed; the repeat is shorter."""
+    timer, length = book.timers[call.a], length_of(call.v)
     timer.state = ONE_SHOT + call.kind
     timer.condition_variable = call.b
-    timer.length = length_of(call.v)
-    timer.due = book.tick_count + timer.length
+    timer.length = length if timer.state == ONE_SHOT else repeat_of(length)
+    timer.due = book.tick_count + length
     return NONE
 
 

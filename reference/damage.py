@@ -12,8 +12,8 @@ from chance import Chance
 from layout import Record, TimerEntry
 from make_records import settle_places
 from words import (
-    LONGEST_LENGTH, NONE, ONE_SHOT, READY, RUNNING, TIMER_STOPPED,
-    WAITS_FOR_MUTEX, WAITS_ON_CONDITION_VARIABLE,
+    LONGEST_LENGTH, NONE, ONE_SHOT, PERIODIC, READY, RUNNING, TIMER_STOPPED,
+    WAITS_FOR_MUTEX, WAITS_ON_CONDITION_VARIABLE, most_left,
 )
 
 SoundDamage = Callable[[Chance, Record], bool]
@@ -388,16 +388,24 @@ def timer_condition_variable(chance: Chance, record: Record) -> bool:
     return True
 
 
-def timer_left(chance: Chance, record: Record) -> bool:
-    """A running timer has no ticks left, or more than its length."""
+def timer_length(chance: Chance, record: Record) -> bool:
+    """A running timer has no length; only a periodic one breaks this alone."""
     running = timers_in(record, False)
     if not running:
         return False
     timer = record.timers[chance.pick(running)]
-    beyond = min(timer.length + 1, LONGEST_LENGTH)
+    timer.state, timer.length, timer.left = PERIODIC, 0, 1
+    return True
+
+
+def timer_left(chance: Chance, record: Record) -> bool:
+    """A running timer has no ticks left, or more than it can have."""
+    running = timers_in(record, False)
+    if not running:
+        return False
+    timer = record.timers[chance.pick(running)]
+    beyond = min(most_left(timer.state, timer.length) + 1, LONGEST_LENGTH)
     timer.left = chance.pick((0, beyond, LONGEST_LENGTH))
-    if chance.percent(20):
-        timer.length = 0
     return True
 
 
@@ -509,6 +517,7 @@ SOUND_DAMAGE: Dict[str, SoundDamage] = {
     "sound-tie-waiter-owns": tie_waiter_owns,
     "sound-tie-waiter-base": tie_waiter_base,
     "sound-timer-condition-variable": timer_condition_variable,
+    "sound-timer-length": timer_length,
     "sound-timer-left": timer_left,
     "sound-stopped-timer-condition-variable":
         stopped_timer_condition_variable,

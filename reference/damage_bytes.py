@@ -15,7 +15,7 @@ from layout import (
     ThreadEntry, TimerEntry, bytes_of, header_of, packed, record_of,
 )
 from make_records import settle_places
-from words import NONE, READY, TIMER_STOPPED
+from words import LONGEST_LENGTH, NONE, READY, TIMER_STOPPED
 
 Damage = Callable[[Chance, bytes], bytes]
 
@@ -216,7 +216,9 @@ def change_object(chance: Chance, data: bytes) -> bytes:
         entry.tied = chance.pick((NONE, chance.below(mutexes + 1)))
     if record.timers and chance.percent(40):
         timer = chance.pick(record.timers)
-        timer.left = chance.pick((0, 1, timer.length, timer.left))
+        timer.left = chance.pick((0, 1, timer.length, timer.left, min(
+            timer.length + chance.between(1, 2), LONGEST_LENGTH
+        )))
         timer.state = chance.pick((timer.state, chance.below(3)))
     if chance.percent(5):
         record.started = 1 - record.started

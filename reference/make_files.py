@@ -6,23 +6,28 @@ a large set are the files of a small one.
 
 from __future__ import annotations
 
-from typing import Dict, List, NamedTuple, Optional, Tuple
+from typing import Callable, Dict, List, NamedTuple, Optional, Tuple
 
 from actions import call, start_timer_on, timers_in
 from book import Book
 from chance import Chance, chance_for
 from damage import break_sound
 from damage_bytes import FORM_DAMAGE, blind_damage
-from layout import Record, bytes_of
+from delays import DelaysWalk, lay_out_delays
+from edges import EDGE_ROWS, TimerRow
+from layout import ConditionVariableEntry, Record, TimerEntry, bytes_of
 from make_records import (
-    deep_record, laid_out_record, started_record, stopped_record,
+    deep_or_started_record, deep_record, laid_out_record, started_record,
+    stopped_record,
 )
 from record import load
 from rows import ROW
 from rules import FORM_NAMES, SOUND_NAMES, all_broken_sound, broken_rule
-from stops import Case, StopsWalk, lay_out_stops, record_before_stops
+from stops import Case, StopsWalk, lay_out_stops
 from walks import TASTES, Walk
-from words import LONGEST_LENGTH, TICK, Answer, delay_of
+from words import (
+    LONGEST_LENGTH, NONE, TICK, TIMER_STOPPED, Answer, delay_of,
+)
 
 CALLS_PURPOSE, RECORDS_PURPOSE = 1, 2
 RULE_NAMES: Tuple[str, ...] = FORM_NAMES + SOUND_NAMES
@@ -42,8 +47,12 @@ LONG_LENGTHS = (65_535, 65_535, 65_534, 65_473, 65_472, 32_768, 4_096)
 MANY_EVERY, MANY_AT, MANY_ROWS = 25, 24, (1_025, 2_500)
 FAR_EVERY, FAR_AT, FAR_ROWS = 400, 250, (20_001, 22_000)
 
-# Files made for stops, by turns from boot and from a record.
+# Files made for stops and for delays, by turns from boot and from a record.
 STOPS_EVERY, STOPS_AT = 20, 12
+DELAYS_EVERY, DELAYS_AT = 20, 6
+
+MakeWalk = Callable[[Chance, Book], StopsWalk]
+LayOut = Callable[[Chance, Record], Dict[int, Case]]
 
 
 class CallFile(NamedTuple):
@@ -65,9 +74,7 @@ def base_for(chance: Chance, seed: int, name: str) -> Record:
     """A sound record in which a rule is likely to find what it breaks."""
     if name == "sound-none-running" or name.startswith("sound-stopped"):
         return stopped_record(chance)
-    if chance.percent(50):
-        return deep_record(chance, seed)
-    return started_record(chance)
+    return deep_or_started_record(chance, seed)
 
 
 def breaking(chance: Chance, seed: int, name: str) -> bytes:
@@ -88,8 +95,26 @@ def breaking(chance: Chance, seed: int, name: str) -> bytes:
     raise RuntimeError("no record found that breaks " + name)
 
 
+def edge_record(chance: Chance, seed: int, row: TimerRow) -> Record:
+    """A record with one timer at an edge, sound but for what that breaks."""
+    record = deep_or_started_record(chance, seed)
+    if not record.condition_variables:
+        record.condition_variables = [ConditionVariableEntry(NONE)]
+    if not record.timers:
+        record.timers = [TimerEntry(TIMER_STOPPED, NONE, 0, 0)]
+    record.timers[chance.below(len(record.timers))] = TimerEntry(
+        row.state, chance.below(len(record.condition_variables)), row.length,
+        row.left,
+    )
+    return record
+
+
 def make_record(seed: int, index: int) -> bytes:
-    """The record file of this index: of ten, four sound and six damaged."""
+    """The record file of this index.
+
+    Of ten, four are sound, three break a rule, two are damaged without
+    looking, and one has a timer at an edge, each edge in its turn.
+    """
     chance = chance_for(seed, RECORDS_PURPOSE, index)
     kind = index % 10
     if kind < 2:
@@ -101,6 +126,9 @@ def make_record(seed: int, index: int) -> bytes:
     if kind < 7:
         name = RULE_NAMES[(index // 10 * 3 + kind - 4) % len(RULE_NAMES)]
         return breaking(chance, seed, name)
+    if kind == 9:
+        row = EDGE_ROWS[index // 10 % len(EDGE_ROWS)]
+        return bytes_of(edge_record(chance, seed, row))
     return blind_damage(chance, bytes_of(sound_record(chance, seed)))
 
 
@@ -158,15 +186,18 @@ def some_rows(chance: Chance, index: int) -> Optional[int]:
     return chance.pick((0, 40, 150, 300, 400, chance.below(500)))
 
 
-def stops_file(chance: Chance, seed: int, index: int) -> CallFile:
-    """A call file that meets all cases of a stop."""
+def cases_file(
+    chance: Chance, seed: int, turn: int, make_walk: MakeWalk,
+    lay_out: LayOut,
+) -> CallFile:
+    """A call file that meets all cases of a walk that is made for them."""
     start: Optional[bytes] = None
     loaded: Dict[int, Case] = {}
-    if index // STOPS_EVERY % 2 == 1:
-        record = record_before_stops(chance, seed)
-        loaded = lay_out_stops(chance, record)
+    if turn % 2 == 1:
+        record = deep_or_started_record(chance, seed)
+        loaded = lay_out(chance, record)
         start = bytes_of(record)
-    walk = StopsWalk(chance, Book() if start is None else load(start)[1])
+    walk = make_walk(chance, Book() if start is None else load(start)[1])
     if start is None:
         walk.begin()
     walk.go_through(loaded)
@@ -180,7 +211,11 @@ def make_call_file(seed: int, index: int) -> CallFile:
         walk = long_walk(chance)
         return CallFile(bytes(walk.rows), None, walk.answers)
     if index % STOPS_EVERY == STOPS_AT:
-        return stops_file(chance, seed, index)
+        turn = index // STOPS_EVERY
+        return cases_file(chance, seed, turn, StopsWalk, lay_out_stops)
+    if index % DELAYS_EVERY == DELAYS_AT:
+        turn = index // DELAYS_EVERY
+        return cases_file(chance, seed, turn, DelaysWalk, lay_out_delays)
     if index % FAR_EVERY == FAR_AT:
         start = far_start(chance, seed, index)
     else:

@@ -20,7 +20,7 @@ from words import (
     CONDITION_VARIABLES, HIGHEST_PRIORITY, LARGEST_COUNT, LONGEST_LENGTH,
     MUTEXES, NONE, ONE_SHOT, PERIODIC, READY, RUNNING, THREADS,
     TICK_COUNT_ROUND, TIMERS, TIMER_STOPPED, WAITS_FOR_MUTEX,
-    WAITS_ON_CONDITION_VARIABLE,
+    WAITS_ON_CONDITION_VARIABLE, most_left,
 )
 
 POOL_WALKS, POOL_STOPS, POOL_ROWS = 50, 10, 40
@@ -160,9 +160,9 @@ def start_timers(chance: Chance, record: Record) -> None:
                 1, 2, 63, 64, 65, 128, LONGEST_LENGTH - 1, LONGEST_LENGTH,
                 chance.between(1, LONGEST_LENGTH),
             ))
-            timer.left = min(timer.length, chance.pick((
-                1, 1, 2, 3, 63, 64, 65, LONGEST_LENGTH,
-            )))
+            timer.left = min(most_left(timer.state, timer.length), chance.pick(
+                (1, 1, 2, 3, 63, 64, 65, 66, LONGEST_LENGTH)
+            ))
 
 
 def started_record(chance: Chance) -> Record:
@@ -227,3 +227,10 @@ def deep_record(chance: Chance, seed: int) -> Record:
     if record.started == 1 and chance.percent(30):
         record.tick_count = near_round(chance)
     return record
+
+
+def deep_or_started_record(chance: Chance, seed: int) -> Record:
+    """A sound record that is started, of either kind."""
+    if chance.percent(50):
+        return deep_record(chance, seed)
+    return started_record(chance)

@@ -1,7 +1,8 @@
 """The rules of soundness: the clauses of "Otherwise sound means".
 
-They stand in the order document 01 has them. Each stands alone and can be put
-to any record of right form, whatever numbers it holds.
+They stand in the order document 01 has them, with what request L5 of document
+02 allows a running timer. Each stands alone and can be put to any record of
+right form, whatever numbers it holds.
 """
 
 from __future__ import annotations
@@ -11,8 +12,8 @@ from typing import Dict, List, Tuple
 from breach import IN_HEADER, Breach, Breaches, Rule
 from layout import Queue, Record, ThreadEntry
 from words import (
-    HIGHEST_PRIORITY, IDLE, NONE, READY, RUNNING, TIMER_STOPPED,
-    WAITS_FOR_MUTEX, WAITS_ON_CONDITION_VARIABLE,
+    HIGHEST_PRIORITY, IDLE, NONE, PERIODIC, READY, RUNNING, TIMER_STOPPED,
+    WAITS_FOR_MUTEX, WAITS_ON_CONDITION_VARIABLE, most_left,
 )
 
 OUTSIDE = f"outside 1 to {HIGHEST_PRIORITY}"
@@ -347,16 +348,28 @@ def timer_condition_variable(record: Record) -> Breaches:
             )
 
 
-def timer_left(record: Record) -> Breaches:
-    """A running timer has ticks left from 1 to n."""
+def timer_length(record: Record) -> Breaches:
+    """A running timer has n 1 or more: no repeat has 0 ticks."""
     for identity, timer in enumerate(record.timers):
-        if timer.state != TIMER_STOPPED and (
-            not 1 <= timer.left <= timer.length
-        ):
-            yield Breach(f"timer {identity}", (
-                f"it runs, and its ticks left are {timer.left}, "
-                f"not 1 to its length {timer.length}"
-            ))
+        if timer.state != TIMER_STOPPED and timer.length < 1:
+            yield Breach(
+                f"timer {identity}",
+                f"it runs, and its length is {timer.length}, not 1 or more",
+            )
+
+
+def timer_left(record: Record) -> Breaches:
+    """A running timer has 1 to n ticks left, a periodic one at times n + 1."""
+    for identity, timer in enumerate(record.timers):
+        most = most_left(timer.state, timer.length)
+        if timer.state == TIMER_STOPPED or 1 <= timer.left <= most:
+            continue
+        limit = f"its length {timer.length}"
+        if timer.state == PERIODIC:
+            limit = f"{most} for its repeat {timer.length}"
+        yield Breach(f"timer {identity}", (
+            f"it runs, and its ticks left are {timer.left}, not 1 to {limit}"
+        ))
 
 
 def stopped_timer_condition_variable(record: Record) -> Breaches:
@@ -450,6 +463,7 @@ SOUND_RULES: Tuple[Rule[Record], ...] = (
     ("sound-tie-waiter-owns", tied_waiter_owns),
     ("sound-tie-waiter-base", tied_waiter_base),
     ("sound-timer-condition-variable", timer_condition_variable),
+    ("sound-timer-length", timer_length),
     ("sound-timer-left", timer_left),
     ("sound-stopped-timer-condition-variable",
      stopped_timer_condition_variable),

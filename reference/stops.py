@@ -13,13 +13,13 @@ from typing import Dict, List, NamedTuple
 from actions import call, some_delay_of, some_target, timers_in
 from book import Book
 from chance import Chance
+from edges import KINDS
 from layout import ConditionVariableEntry, Record, TimerEntry
-from make_records import deep_record, started_record
 from rows import ROW
 from walks import STOPPING, Range, Walk
 from words import (
     LONGEST_LENGTH, NONE, ONE_SHOT, START_TIMER, STOP_TIMER, TICK_COUNT_ROUND,
-    TIMERS, TIMER_STOPPED,
+    TIMERS, TIMER_STOPPED, most_left, repeat_of,
 )
 
 
@@ -34,10 +34,9 @@ class Case(NamedTuple):
 
 # Both ends, and the numbers about the largest of a byte, which also stands
 # for "nothing given". After a tick the largest is left only of a periodic
-# timer that has just been due.
+# timer that has just been due, and only in a record is there such a repeat.
 LEFT_LATER = (1, 255, 256, 257)
 LEFT_AT_ONCE = LEFT_LATER + (LONGEST_LENGTH,)
-KINDS = (0, 1)
 NO_TICKS, FEW, MANY = (0, 0), (1, 20), (64, 84)
 
 AT_ONCE = tuple(
@@ -77,33 +76,32 @@ def timer_for(chance: Chance, case: Case, target: int) -> TimerEntry:
     state, ticks = ONE_SHOT + case.kind, chance.between(*case.ticks)
     if case.expiries > 0:
         length = case.left + ticks
-        left = min(length, chance.between(*MANY))
+        left = min(most_left(state, length), chance.between(*MANY))
     else:
         left = case.left + ticks
-        length = min(LONGEST_LENGTH, left + chance.pick((0, 1, 1_000)))
+        least = left if state == ONE_SHOT else repeat_of(left)
+        length = min(LONGEST_LENGTH, least + chance.pick((0, 1, 1_000)))
     return TimerEntry(state, target, length, left)
 
 
-def lay_out_stops(chance: Chance, record: Record) -> Dict[int, Case]:
-    """Let timers run in a record that is near its round; the case of each."""
-    record.tick_count = TICK_COUNT_ROUND - chance.between(*TO_ROUND)
+def make_ready(chance: Chance, record: Record, to_round: Range) -> None:
+    """Bring a record near its round, with all timers there and stopped."""
+    record.tick_count = TICK_COUNT_ROUND - chance.between(*to_round)
     if not record.condition_variables:
         record.condition_variables = [ConditionVariableEntry(NONE)]
     record.timers = [
         TimerEntry(TIMER_STOPPED, NONE, 0, 0) for _ in range(TIMERS)
     ]
+
+
+def lay_out_stops(chance: Chance, record: Record) -> Dict[int, Case]:
+    """Let timers run in a record that is near its round; the case of each."""
+    make_ready(chance, record, TO_ROUND)
     cases = dict(zip(chance.shuffled(range(TIMERS)), LOADED))
     for identity, case in cases.items():
         target = chance.below(len(record.condition_variables))
         record.timers[identity] = timer_for(chance, case, target)
     return cases
-
-
-def record_before_stops(chance: Chance, seed: int) -> Record:
-    """A sound record that is started, of any kind."""
-    if chance.percent(50):
-        return deep_record(chance, seed)
-    return started_record(chance)
 
 
 class StopsWalk(Walk):
@@ -116,18 +114,26 @@ class StopsWalk(Walk):
 
     def aim(self, identity: int, case: Case) -> None:
         """Remember when to stop a timer that has just begun to run."""
-        timer = self.book.timers[identity]
-        since = timer.due + (case.expiries - 1) * timer.length
+        timer, since = self.book.timers[identity], self.book.tick_count
+        if case.expiries > 0:
+            since = timer.due + (case.expiries - 1) * timer.length
         self.aims[identity] = Aim(case.left, since)
+
+    def start_one(self, kind: int, delay: int) -> int:
+        """Start a stopped timer with this delay; which one it is."""
+        identity = self.chance.pick(timers_in(self, True))
+        self.do(call(
+            START_TIMER, identity, some_target(self), kind, delay
+        ))
+        return identity
 
     def start_for(self, case: Case) -> None:
         """Start a timer that comes to its case."""
-        identity = self.chance.pick(timers_in(self, True))
         length = case.left + self.chance.between(*case.ticks)
-        self.do(call(
-            START_TIMER, identity, some_target(self), case.kind,
-            some_delay_of(self, length),
-        ))
+        if case.expiries > 0:
+            # These are the ticks of the repeat, and the length has one more.
+            length += 1
+        identity = self.start_one(case.kind, some_delay_of(self, length))
         self.aim(identity, case)
 
     def timers_in_time(self) -> List[int]:
@@ -144,16 +150,27 @@ class StopsWalk(Walk):
             self.do(call(STOP_TIMER, identity))
             del self.aims[identity]
 
-    def go_through(self, loaded: Dict[int, Case]) -> None:
-        """Come to all cases, those of the loaded timers among them."""
+    def go_on(self) -> None:
+        """Do something else, and then the stops whose time has come."""
+        self.do(self.proposal())
+        self.stop_in_time()
+
+    def aim_at(self, loaded: Dict[int, Case]) -> None:
+        """Take up the cases of the timers that run in the record."""
         for identity, case in loaded.items():
             self.aim(identity, case)
         self.stop_in_time()
+
+    def begin_cases(self) -> None:
+        """Start a timer for each case."""
         for case in self.chance.shuffled(STARTED):
             self.start_for(case)
             self.stop_in_time()
-            self.do(self.proposal())
-            self.stop_in_time()
+            self.go_on()
+
+    def go_through(self, loaded: Dict[int, Case]) -> None:
+        """Come to all cases, those of the loaded timers among them."""
+        self.aim_at(loaded)
+        self.begin_cases()
         while self.aims and len(self.rows) < MOST_ROWS * ROW:
-            self.do(self.proposal())
-            self.stop_in_time()
+            self.go_on()

@@ -3,8 +3,8 @@
 Rows and records are written in hexadecimal; the zeros a row ends in are left
 out. A step is a row with the three numbers of its answer. A fact is something
 the state has to show at that point. Every number was worked out by hand from
-document 01, and what a stop gives from request L2 of document 02; where they
-leave the way to a situation open, the shortest is used.
+document 01, what a stop gives from request L2 of document 02, and lengths from
+request L5; where they leave the way to a situation open, the shortest is used.
 """
 
 from __future__ import annotations
@@ -94,6 +94,18 @@ def ceiling_five(base: str, answer: int) -> Tuple[Union[Step, Fact], ...]:
     )
 
 
+def has_length(
+    microseconds: str, length: int
+) -> Tuple[Union[Step, Fact], ...]:
+    """E3: the length of a one-shot, in its row and before any tick."""
+    return (
+        Step("0B 00 00 00 " + microseconds, (0, 255, 0)),
+        Fact("length", 0, (length,)),
+        Fact("left", 0, (length,)),
+        Step("0C 00", (0, length, 0)),
+    )
+
+
 EXAMPLES: Tuple[Example, ...] = (
     Example("E2", "", (
         Step("01", (0, 255, 0)),
@@ -102,17 +114,18 @@ EXAMPLES: Tuple[Example, ...] = (
         Step("04", (0, 0, 255)),
         Step("05", (0, 0, 255)),
         Step("01", (0, 255, 0)),
-        Step("0B 00 00 00 E7 03", (6, 255, 0)),
-        Step("0B 00 00 00 E8 03", (0, 255, 0)),
-        Fact("length", 0, (1,)),
-        Step("0C 00", (0, 1, 0)),
-        Step("0B 00 00 00 FF FF E7 03", (0, 255, 0)),
-        Fact("length", 0, (65_535,)),
-        Step("0C 00", (0, 65_535, 0)),
-        Step("0B 00 00 00 00 00 E8 03", (6, 255, 0)),
+    ) + (
+        has_length("", 1)
+        + has_length("01", 2)
+        + has_length("E8 03", 2)
+        + has_length("CF 07", 3)
+        + has_length("30 F8 E7 03", 65_535)
+    ) + (
+        Step("0B 00 00 00 31 F8 E7 03", (6, 255, 0)),
+        Step("0B 00 00 00 FF FF FF FF", (6, 255, 0)),
     )),
     Example("E5", LAST_TICK_COUNT, (
-        Step("0B 00 00 00 E8 03", (0, 255, 0)),
+        Step("0B", (0, 255, 0)),
         Fact("tick count", 0, (4_294_967_295,)),
         Step("0D", (0, 1, 0)),
         Fact("tick count", 0, (0,)),

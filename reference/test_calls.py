@@ -1,8 +1,8 @@
 """Tests of the thirteen calls, their refusals and the rule of three.
 
 Each test plays a short scene; every expected number was worked out by hand
-from document 01, request L2 of document 02 and the readings of their open
-points.
+from document 01, requests L2 and L5 of document 02 and the readings of their
+open points.
 """
 
 from __future__ import annotations
@@ -23,6 +23,10 @@ from words import (
 )
 
 MILLISECOND = 1_000
+
+# The delay of a timer that is due at the next tick, and one that is too long.
+NO_DELAY = 0
+TOO_LONG = 65_534_001
 
 
 class Scene(unittest.TestCase):
@@ -163,8 +167,8 @@ class Refusals(Scene):
         """4 comes before 6 and before 5."""
         self.prepare((), (4,), 1, 1)
         self.expect((0, 255, 0), START)
-        self.expect((4, 255, 0), START_TIMER, 1, 0, 0, 0)
-        self.expect((4, 255, 0), START_TIMER, 0, 1, 0, 0)
+        self.expect((4, 255, 0), START_TIMER, 1, 0, 0, TOO_LONG)
+        self.expect((4, 255, 0), START_TIMER, 0, 1, 0, TOO_LONG)
         self.expect((4, 255, 0), ACQUIRE, 1)
         self.expect((4, 255, 0), WAIT, 0, 1)
         self.expect((4, 255, 0), WAIT, 1, 0)
@@ -186,7 +190,7 @@ class Refusals(Scene):
         self.expect((6, 255, 255), CREATE_MUTEX, 16)
         self.expect((0, 255, 1), START)
         self.expect((0, 255, 1), START_TIMER, 0, 0, 0, MILLISECOND)
-        self.expect((6, 255, 1), START_TIMER, 0, 0, 0, 999)
+        self.expect((6, 255, 1), START_TIMER, 0, 0, 0, TOO_LONG)
         self.expect((13, 255, 1), START_TIMER, 0, 0, 0, MILLISECOND)
 
     def test_full_tables(self) -> None:
@@ -207,7 +211,7 @@ class Refusals(Scene):
         self.expect((0, 0, 0), SIGNAL, 0)
         self.expect((0, 0, 0), BROADCAST, 0)
         self.expect((0, 255, 0), START_TIMER, 0, 0, 1, MILLISECOND)
-        self.expect((0, 1, 0), STOP_TIMER, 0)
+        self.expect((0, 2, 0), STOP_TIMER, 0)
 
     def test_above_ceiling_on_busy_mutex(self) -> None:
         """8 is given on a busy mutex too, before any waiting."""
@@ -262,7 +266,7 @@ class Refusals(Scene):
         self.expect((14, 255, 0), STOP_TIMER, 0)
         self.expect((0, 255, 0), START_TIMER, 0, 0, 1, 2 * MILLISECOND)
         self.expect((13, 255, 0), START_TIMER, 0, 0, 1, 2 * MILLISECOND)
-        self.expect((0, 2, 0), STOP_TIMER, 0)
+        self.expect((0, 3, 0), STOP_TIMER, 0)
         self.expect((14, 255, 0), STOP_TIMER, 0)
 
     def test_refused_tick_row_does_not_rotate(self) -> None:
@@ -346,8 +350,8 @@ class RuleOfThree(Scene):
         self.expect((0, 255, 2), WAIT, 0, 0)
         self.expect((0, 255, 2), ACQUIRE, 1)
         self.expect((0, 255, 3), WAIT, 1, 1)
-        self.expect((0, 255, 3), START_TIMER, 0, 0, 0, MILLISECOND)
-        self.expect((0, 255, 3), START_TIMER, 1, 1, 0, MILLISECOND)
+        self.expect((0, 255, 3), START_TIMER, 0, 0, 0, NO_DELAY)
+        self.expect((0, 255, 3), START_TIMER, 1, 1, 0, NO_DELAY)
         self.expect((0, 2, 1), TICK)
         self.fact("ready", 4, 2, 3)
 
@@ -357,7 +361,7 @@ class RuleOfThree(Scene):
         self.expect((0, 255, 3), START)
         self.expect((0, 255, 3), ACQUIRE, 0)
         self.expect((0, 255, 1), WAIT, 0, 0)
-        self.expect((0, 255, 1), START_TIMER, 0, 0, 0, MILLISECOND)
+        self.expect((0, 255, 1), START_TIMER, 0, 0, 0, NO_DELAY)
         self.expect((0, 1, 3), TICK)
         self.fact("ready", 4, 1, 2)
 
@@ -367,7 +371,7 @@ class RuleOfThree(Scene):
         self.expect((0, 255, 1), START)
         self.expect((0, 255, 1), ACQUIRE, 0)
         self.expect((0, 255, 2), WAIT, 0, 0)
-        self.expect((0, 255, 2), START_TIMER, 0, 0, 0, MILLISECOND)
+        self.expect((0, 255, 2), START_TIMER, 0, 0, 0, NO_DELAY)
         self.expect((0, 1, 3), TICK)
         self.fact("ready", 4, 1, 2)
 
@@ -545,7 +549,7 @@ class Timers(Scene):
         """A one-shot is due once and then stopped."""
         self.prepare((), (), 1, 1)
         self.expect((0, 255, 0), START)
-        self.expect((0, 255, 0), START_TIMER, 0, 0, 0, 3 * MILLISECOND + 999)
+        self.expect((0, 255, 0), START_TIMER, 0, 0, 0, MILLISECOND + 999)
         self.ticks(0, 0, 2)
         self.ticks(1, 0, 1)
         self.ticks(0, 0, 5)
@@ -553,16 +557,17 @@ class Timers(Scene):
         self.expect((0, 255, 0), START_TIMER, 0, 0, 0, MILLISECOND)
 
     def test_periodic(self) -> None:
-        """A periodic timer is due again its length after it was due."""
-        for length in (1, 2, 63, 64, 65, 128):
+        """A periodic timer is due again its repeat after it was due."""
+        for repeat in (1, 2, 63, 64, 65, 128):
             self.book = Book()
             self.prepare((), (), 1, 1)
             self.expect((0, 255, 0), START)
             self.expect(
-                (0, 255, 0), START_TIMER, 0, 0, 1, length * MILLISECOND
+                (0, 255, 0), START_TIMER, 0, 0, 1, repeat * MILLISECOND
             )
+            self.ticks(0, 0, 1)
             for _ in range(3):
-                self.ticks(0, 0, length - 1)
+                self.ticks(0, 0, repeat - 1)
                 self.ticks(1, 0, 1)
 
     def test_stopped_in_time(self) -> None:
@@ -571,7 +576,7 @@ class Timers(Scene):
         self.expect((0, 255, 0), START)
         self.expect((0, 255, 0), START_TIMER, 0, 0, 1, 2 * MILLISECOND)
         self.ticks(0, 0, 1)
-        self.expect((0, 1, 0), STOP_TIMER, 0)
+        self.expect((0, 2, 0), STOP_TIMER, 0)
         self.ticks(0, 0, 200)
 
     def test_given_counts_timers(self) -> None:
@@ -580,8 +585,8 @@ class Timers(Scene):
         self.expect((0, 255, 1), START)
         self.expect((0, 255, 1), ACQUIRE, 0)
         self.expect((0, 255, 0), WAIT, 0, 0)
-        self.expect((0, 255, 0), START_TIMER, 0, 0, 0, MILLISECOND)
-        self.expect((0, 255, 0), START_TIMER, 1, 0, 0, MILLISECOND)
+        self.expect((0, 255, 0), START_TIMER, 0, 0, 0, NO_DELAY)
+        self.expect((0, 255, 0), START_TIMER, 1, 0, 0, NO_DELAY)
         self.expect((0, 2, 1), TICK)
 
     def test_order_of_id(self) -> None:
@@ -592,8 +597,8 @@ class Timers(Scene):
         self.expect((0, 255, 2), WAIT, 0, 0)
         self.expect((0, 255, 2), ACQUIRE, 1)
         self.expect((0, 255, 3), WAIT, 1, 1)
-        self.expect((0, 255, 3), START_TIMER, 1, 0, 0, MILLISECOND)
-        self.expect((0, 255, 3), START_TIMER, 0, 1, 0, MILLISECOND)
+        self.expect((0, 255, 3), START_TIMER, 1, 0, 0, NO_DELAY)
+        self.expect((0, 255, 3), START_TIMER, 0, 1, 0, NO_DELAY)
         self.expect((0, 2, 2), TICK)
         self.fact("ready", 7, 1)
 
@@ -602,7 +607,8 @@ class Timers(Scene):
         self.prepare((), (), 1, 1)
         self.expect((0, 255, 0), START)
         self.expect((0, 255, 0), START_TIMER, 0, 0, 1, 300 * MILLISECOND)
-        self.ticks(0, 0, 1)
+        self.assertEqual(save(self.book)[32:].hex(), "02002c012d010000")
+        self.ticks(0, 0, 2)
         self.assertEqual(save(self.book)[32:].hex(), "02002c012b010000")
         self.ticks(0, 0, 298)
         self.ticks(1, 0, 1)
@@ -615,7 +621,7 @@ class Timers(Scene):
         self.assertEqual(answer, 0)
         self.expect((0, 255, 0), START_TIMER, 0, 0, 1, 2 * MILLISECOND)
         for given, count in (
-            (0, 4_294_967_295), (1, 0), (0, 1), (1, 2), (0, 3),
+            (0, 4_294_967_295), (0, 0), (1, 1), (0, 2), (1, 3),
         ):
             self.expect((0, given, 0), TICK)
             self.fact("tick count", 0, count)
@@ -626,7 +632,7 @@ class Timers(Scene):
         """A timer of 65,535 ticks started before the round is due in time."""
         answer, self.book = load(bytes.fromhex(LAST_TICK_COUNT))
         self.assertEqual(answer, 0)
-        self.expect((0, 255, 0), START_TIMER, 0, 0, 0, 65_535_999)
+        self.expect((0, 255, 0), START_TIMER, 0, 0, 0, 65_534_000)
         self.ticks(0, 0, 65_534)
         self.ticks(1, 0, 1)
         self.fact("tick count", 0, 65_534)
@@ -647,16 +653,17 @@ class Stops(Scene):
         self.assertEqual(answer, 0)
 
     def timer_runs(self, length: int, kind: int) -> None:
-        """Timer 0 is the only one, and is started while thread 0 runs."""
+        """Timer 0 is the only one, and is first due after this length."""
         self.book = Book()
         self.prepare((), (), 1, 1)
         self.expect((0, 255, 0), START)
         self.restart(length, kind)
 
     def restart(self, length: int, kind: int, timer: int = 0) -> None:
-        """Start a stopped timer with this length."""
+        """Start a stopped timer; one more than its delay is its length."""
         self.expect(
-            (0, 255, 0), START_TIMER, timer, 0, kind, length * MILLISECOND
+            (0, 255, 0), START_TIMER, timer, 0, kind,
+            (length - 1) * MILLISECOND,
         )
 
     def stop(self, left: int, timer: int = 0) -> None:
@@ -672,14 +679,18 @@ class Stops(Scene):
                 self.timer_runs(length, kind)
                 self.stop(length)
 
-    def test_longest_delay(self) -> None:
-        """The rest of a delay is no tick: 65,535,999 leaves 65,535."""
+    def test_rest_of_a_delay(self) -> None:
+        """The rest of a delay is a tick: 65,533,001 leaves 65,535."""
         self.timer_runs(1, 0)
         self.stop(1)
-        self.expect((0, 255, 0), START_TIMER, 0, 0, 1, 65_535_999)
-        self.stop(65_535)
-        self.expect((0, 255, 0), START_TIMER, 0, 0, 0, 255_999)
-        self.stop(255)
+        for kind in (0, 1):
+            for delay, left in (
+                (65_533_001, 65_535), (65_534_000, 65_535), (253_000, 254),
+                (253_001, 255), (253_999, 255), (254_000, 255),
+                (254_001, 256),
+            ):
+                self.expect((0, 255, 0), START_TIMER, 0, 0, kind, delay)
+                self.stop(left)
 
     def test_after_ticks(self) -> None:
         """Each tick takes one away."""
@@ -706,10 +717,11 @@ class Stops(Scene):
         self.expect((14, 255, 0), STOP_TIMER, 0)
 
     def test_periodic_after_expiries(self) -> None:
-        """The length less the ticks since the last expiry is left."""
-        for expiries in (1, 2):
+        """The repeat less the ticks since the last expiry is left."""
+        for expiries in (1, 2, 3):
             for ticks, left in ((0, 5), (1, 4), (3, 2), (4, 1)):
-                self.timer_runs(5, 1)
+                self.timer_runs(6, 1)
+                self.ticks(0, 0, 1)
                 for _ in range(expiries):
                     self.ticks(0, 0, 4)
                     self.ticks(1, 0, 1)
@@ -721,6 +733,10 @@ class Stops(Scene):
         self.timer_runs(1, 1)
         self.ticks(1, 0, 3)
         self.stop(1)
+        self.restart(2, 1)
+        self.ticks(0, 0, 1)
+        self.ticks(1, 0, 3)
+        self.stop(1)
 
     def test_about_a_byte(self) -> None:
         """255, 256 and 257 are given as they are, however they came."""
@@ -729,12 +745,12 @@ class Stops(Scene):
                 self.timer_runs(300, kind)
                 self.ticks(0, 0, ticks)
                 self.stop(left)
-        for length, ticks, left in (
+        for repeat, ticks, left in (
             (257, 0, 257), (257, 1, 256), (257, 2, 255), (256, 0, 256),
             (256, 1, 255), (255, 0, 255), (255, 1, 254),
         ):
-            self.timer_runs(length, 1)
-            self.ticks(0, 0, length - 1)
+            self.timer_runs(repeat + 1, 1)
+            self.ticks(0, 0, repeat)
             self.ticks(1, 0, 1)
             self.ticks(0, 0, ticks)
             self.stop(left)
@@ -773,18 +789,18 @@ class Stops(Scene):
             self.stop(left)
 
     def test_periodic_across_the_round(self) -> None:
-        """An expiry at count 0 leaves the length; so does one after it."""
+        """An expiry at count 0 leaves the repeat; so does one after it."""
         self.load("FD FF FF FF")
         self.restart(3, 1)
         self.ticks(0, 0, 2)
         self.ticks(1, 0, 1)
         self.fact("tick count", 0, 0)
-        self.stop(3)
+        self.stop(2)
         self.load("FD FF FF FF")
-        self.restart(2, 1)
-        for given in (0, 1, 0, 1, 0):
+        self.restart(3, 1)
+        for given in (0, 0, 1, 0, 1, 0, 1, 0):
             self.ticks(given, 0, 1)
-        self.fact("tick count", 0, 2)
+        self.fact("tick count", 0, 5)
         self.stop(1)
 
     def test_loaded(self) -> None:
@@ -797,6 +813,10 @@ class Stops(Scene):
             ("01 00 FF FF 01 01 00 00", 257),
             ("02 00 FF FF FF FF 00 00", 65_535),
             ("01 00 FF FF FE FF 00 00", 65_534),
+            ("02 00 01 00 02 00 00 00", 2),
+            ("02 00 2C 01 2D 01 00 00", 301),
+            ("02 00 FE 00 FF 00 00 00", 255),
+            ("02 00 FE FF FF FF 00 00", 65_535),
         ):
             for count in ("00 00 00 00", "FF FF FF FF"):
                 self.load(count, timer)
@@ -843,7 +863,7 @@ class Stops(Scene):
         self.ticks(0, 0, 1)
         self.expect((3, 255, 0), START)
         self.expect((13, 255, 0), START_TIMER, 0, 0, 1, 9 * MILLISECOND)
-        self.expect((6, 255, 0), START_TIMER, 0, 0, 0, 999)
+        self.expect((6, 255, 0), START_TIMER, 0, 0, 0, TOO_LONG)
         self.expect((4, 255, 0), SIGNAL, 1)
         self.expect((0, 0, 0), SIGNAL, 0)
         self.expect((0, 1, 0), CREATE_TIMER)
@@ -887,9 +907,9 @@ class Stops(Scene):
         self.expect((0, 1, 1), SIGNAL, 0)
         self.expect((0, 255, 1), RELEASE, 0)
         self.expect((0, 0, 1), BROADCAST, 0)
-        self.expect((0, 255, 1), START_TIMER, 1, 0, 0, MILLISECOND)
+        self.expect((0, 255, 1), START_TIMER, 1, 0, 0, NO_DELAY)
         self.expect((0, 1, 1), TICK)
-        self.expect((0, 299, 1), STOP_TIMER, 0)
+        self.expect((0, 300, 1), STOP_TIMER, 0)
         self.expect((0, 0, 1), TICK)
 
 

@@ -39,6 +39,8 @@ def shown(book: Book, fact: Fact) -> Tuple[int, ...]:
         return (book.condition_variables[fact.where].tied,)
     if fact.what == "length":
         return (book.timers[fact.where].length,)
+    if fact.what == "left":
+        return (book.left(book.timers[fact.where]),)
     if fact.what == "tick count":
         return (book.tick_count % TICK_COUNT_ROUND,)
     if fact.what == "ready":

@@ -7,20 +7,23 @@ row, not in the book, so that a mistake in the book cannot hide itself.
 from __future__ import annotations
 
 import unittest
-from dataclasses import dataclass
+from dataclasses import dataclass, field
 from functools import lru_cache
 from typing import Dict, List, Set, Tuple
 
 from actions import leads_to
 from book import Book
 from chance import Chance, chance_for
-from layout import Record, bytes_of, record_of
+from layout import Record, TimerEntry, bytes_of, record_of
 from make_files import (
-    FAR_AT, FAR_EVERY, MANY_AT, MANY_EVERY, NEVER_ALONE, STOPS_AT,
-    STOPS_EVERY, CallFile, make_call_file, make_record,
+    DELAYS_AT, DELAYS_EVERY, FAR_AT, FAR_EVERY, MANY_AT, MANY_EVERY,
+    NEVER_ALONE, STOPS_AT, STOPS_EVERY, CallFile, make_call_file, make_record,
 )
 from make_records import (
     deep_record, laid_out_record, started_record, stopped_record,
+)
+from met import (
+    WANTED_OF_CALLS, WANTED_OF_RECORDS, met_by_calls, met_by_record,
 )
 from record import load, save
 from rows import answer_row, take_apart
@@ -86,6 +89,40 @@ def given_by(before: Record, row: bytes) -> int:
     return NONE
 
 
+STOPPED_TIMER = TimerEntry(0, NONE, 0, 0)
+
+
+def started_timer(row: bytes) -> TimerEntry:
+    """The timer an accepted start has to leave."""
+    length = (int.from_bytes(row[4:], "little") + 999) // 1_000 + 1
+    kept = length if row[3] == 0 else max(length - 1, 1)
+    return TimerEntry(1 + row[3], row[2], kept, length)
+
+
+def ticked_timer(timer: TimerEntry) -> TimerEntry:
+    """The timer an accepted tick has to leave."""
+    if timer.state == 0 or (timer.state == 1 and timer.left == 1):
+        return STOPPED_TIMER
+    left = timer.length if timer.left == 1 else timer.left - 1
+    return TimerEntry(
+        timer.state, timer.condition_variable, timer.length, left
+    )
+
+
+def timers_after(before: Record, row: bytes) -> List[TimerEntry]:
+    """The timers an accepted row has to leave, from the record before it."""
+    timers = list(before.timers)
+    if row[0] == 5:
+        timers.append(STOPPED_TIMER)
+    elif row[0] == 11:
+        timers[row[1]] = started_timer(row)
+    elif row[0] == 12:
+        timers[row[1]] = STOPPED_TIMER
+    elif row[0] == 13:
+        timers = [ticked_timer(timer) for timer in timers]
+    return timers
+
+
 @dataclass
 class TimerRun:
     """A timer's run: begun in a record or not, and what it came through."""
@@ -101,13 +138,13 @@ class TimerRun:
         self.expiries += before.timers[identity].left == 1
         self.across = self.across or before.tick_count == 2 ** 32 - 1
 
-    def said(self) -> List[str]:
-        """All that can be said of the run when it is stopped."""
+    def said(self, timer: TimerEntry) -> List[str]:
+        """All that can be said of the run when it is stopped there."""
         begun = "loaded" if self.loaded else "started"
         true = {
             "at once": self.ticks == 0, "ticked": self.ticks > 0,
             "expired": self.expiries > 0, "expired twice": self.expiries > 1,
-            "across": self.across,
+            "across": self.across, "above": timer.left == timer.length + 1,
         }
         return [begun + ", " + word for word in true if true[word]]
 
@@ -133,10 +170,70 @@ def stops_of(made: CallFile) -> Set[Stop]:
             runs[row[1]] = TimerRun(False)
         elif row[0] == 12:
             timer, run = before.timers[row[1]], runs.pop(row[1])
-            found |= {(timer.left, timer.state, one) for one in run.said()}
+            found |= {
+                (timer.left, timer.state, one) for one in run.said(timer)
+            }
         elif row[0] == 13:
             for identity, run in runs.items():
                 run.tick(before, identity)
+    return found
+
+
+@dataclass
+class PeriodicRun:
+    """A periodic timer's run: its delay, and the ticks up to each expiry."""
+
+    delay: int
+    ticks: int = 0
+    gaps: List[int] = field(default_factory=list)
+    across: bool = False
+
+    def tick(self, before: Record, identity: int) -> None:
+        """Note an accepted tick, from the record before it."""
+        self.ticks += 1
+        self.across = self.across or before.tick_count == 2 ** 32 - 1
+        if before.timers[identity].left == 1:
+            self.gaps.append(self.ticks)
+            self.ticks = 0
+
+
+def periodic_runs_of(made: CallFile) -> List[PeriodicRun]:
+    """The periodic timers a call file starts, from rows and records."""
+    book = begin(made)
+    found: List[PeriodicRun] = []
+    runs: Dict[int, PeriodicRun] = {}
+    for row in rows_of(made):
+        before = record_of(save(book))
+        if answer_row(book, row).answer != 0:
+            continue
+        if row[0] == 11 and row[3] == 1:
+            runs[row[1]] = PeriodicRun(int.from_bytes(row[4:], "little"))
+            found.append(runs[row[1]])
+        elif row[0] == 12:
+            runs.pop(row[1], None)
+        elif row[0] == 13:
+            for identity, run in runs.items():
+                run.tick(before, identity)
+    return found
+
+
+# A delay, the kind, and the answer of its start.
+Tried = Tuple[int, int, int]
+
+
+def tried_of(made: CallFile) -> Set[Tried]:
+    """The starts that only their delay can refuse, from rows and records."""
+    book = begin(made)
+    found: Set[Tried] = set()
+    for row in rows_of(made):
+        before = record_of(save(book))
+        answer = answer_row(book, row).answer
+        if take_apart(row) is None or row[0] != 11 or before.started == 0:
+            continue
+        if row[1] < len(before.timers) and before.timers[row[1]].state == 0:
+            if row[2] < len(before.condition_variables):
+                delay = int.from_bytes(row[4:], "little")
+                found.add((delay, row[3], answer))
     return found
 
 
@@ -279,8 +376,7 @@ class CallFiles(unittest.TestCase):
             [thread.base for thread in new.threads][:len(old.threads)],
             [thread.base for thread in old.threads],
         )
-        if row[0] not in (11, 12, 13):
-            self.assertEqual(new.timers[:len(old.timers)], old.timers)
+        self.assertEqual(new.timers, timers_after(old, row))
 
     def one_runs(self, record: Record, answer: Answer) -> None:
         """Exactly the answered thread runs, and none ready is above it."""
@@ -339,6 +435,7 @@ class Stops(unittest.TestCase):
         """What a file has to meet wherever it begins."""
         return (
             self.wanted(self.ALL, (1, 2), "started, at once")
+            | self.wanted(self.ALL[1:], (2,), "started, above")
             | self.wanted(self.FEW, (1, 2), "started, ticked")
             | self.wanted(self.FEW, (2,), "started, expired")
         )
@@ -377,8 +474,112 @@ class Stops(unittest.TestCase):
             self.assertLessEqual(2 ** 32 - count, 64)
 
 
+class Delays(unittest.TestCase):
+    """Call files made for delays: each of them meets every case."""
+
+    ACCEPTED = (
+        0, 1, 999, 1_000, 1_001, 1_999, 2_000, 2_001, 65_533_999, 65_534_000,
+    )
+    REFUSED = (65_534_001, 4_294_966_296, 4_294_966_297, 4_294_967_295)
+
+    # The ticks to the first expiry, from it to the second, and to the third.
+    GAPS: Dict[int, List[int]] = {
+        0: [1, 1, 1],
+        1: [2, 1, 1],
+        999: [2, 1, 1],
+        1_000: [2, 1, 1],
+        1_001: [3, 2, 2],
+        1_999: [3, 2, 2],
+        2_000: [3, 2, 2],
+        2_001: [4, 3, 3],
+        63_000: [64, 63, 63],
+        64_000: [65, 64, 64],
+        65_000: [66, 65, 65],
+    }
+
+    def made(self, turn: int) -> Tuple[CallFile, ...]:
+        """The files from boot, turn 0, or those from a record, turn 1."""
+        return call_files()[DELAYS_AT + turn * DELAYS_EVERY::2 * DELAYS_EVERY]
+
+    def test_starts(self) -> None:
+        """Each delay is tried for both kinds, and only some are refused."""
+        wanted = {
+            (delay, kind, answer) for kind in (0, 1)
+            for delays, answer in ((self.ACCEPTED, 0), (self.REFUSED, 6))
+            for delay in delays
+        }
+        for made in self.made(0) + self.made(1):
+            self.assertEqual(wanted - tried_of(made), set())
+
+    def test_expiries(self) -> None:
+        """Short periodic timers go on over three expiries, and the round."""
+        for turn in (0, 1):
+            for made in self.made(turn):
+                followed = [
+                    run for run in periodic_runs_of(made)
+                    if len(run.gaps) == 3 and run.delay in self.GAPS
+                ]
+                self.assertEqual(
+                    {run.delay for run in followed}, set(self.GAPS)
+                )
+                for run in followed:
+                    self.assertEqual(run.gaps, self.GAPS[run.delay])
+                    self.assertEqual(run.across, turn == 1)
+
+    def test_stops_above_the_length_of_the_row(self) -> None:
+        """Periodic timers are stopped at n + 1, started ones and loaded."""
+        started = {2, 3, 4, 64, 65, 66, 65_534, 65_535}
+        loaded = {2, 255, 256, 257, 65_535}
+        for turn in (0, 1):
+            for made in self.made(turn):
+                met = stops_of(made)
+                for left in started:
+                    self.assertIn((left, 2, "started, above"), met)
+                for left in loaded if turn == 1 else ():
+                    self.assertIn((left, 2, "loaded, above"), met)
+
+    def test_cases(self) -> None:
+        """All cases that are wanted are met, at boot those it can have."""
+        for made in self.made(0):
+            self.assertIsNone(made.start)
+            missing = WANTED_OF_CALLS - met_by_calls(made.rows)
+            self.assertTrue(all(
+                "loaded" in name or "round" in name for name in missing
+            ), missing)
+        for made in self.made(1):
+            self.assertEqual(
+                WANTED_OF_CALLS - met_by_calls(made.rows, made.start), set()
+            )
+
+    def test_shapes(self) -> None:
+        """The records are sound and at the round; no file is long."""
+        both = self.made(0) + self.made(1)
+        self.assertEqual(len(both), FILES // DELAYS_EVERY)
+        for made in both:
+            self.assertLess(len(made.rows) // 8, 1_000)
+            self.assertEqual(len(made.rows) % 8, 0)
+        for made in self.made(1):
+            assert made.start is not None
+            self.assertIsNone(broken_rule(made.start))
+            count = record_of(made.start).tick_count
+            self.assertLessEqual(2 ** 32 - count, 3)
+
+
 class Records(unittest.TestCase):
     """Generated records."""
+
+    # State, length and ticks left of the timers that are met.
+    SOUND_TIMERS = {
+        (2, 1, 1), (2, 1, 2), (2, 9, 10), (2, 255, 256), (2, 65_534, 65_535),
+        (2, 65_535, 65_535), (2, 65_535, 1), (1, 1, 1), (1, 10, 10),
+        (1, 65_535, 65_535),
+    }
+    UNSOUND_TIMERS = {
+        (2, 0, 1), (2, 0, 0), (2, 0, 2), (1, 0, 1), (1, 0, 0), (1, 1, 2),
+        (1, 10, 11), (1, 255, 256), (1, 65_534, 65_535), (2, 1, 3),
+        (2, 9, 11), (2, 254, 256), (2, 65_533, 65_535), (2, 1, 0),
+        (2, 65_535, 0), (1, 1, 0),
+    }
 
     def test_every_rule_is_met(self) -> None:
         """Each rule is the first broken one somewhere; sound ones are met."""
@@ -418,6 +619,41 @@ class Records(unittest.TestCase):
                 self.assertIsNone(broken_rule(bytes_of(record)))
                 started += (record.started,)
         self.assertEqual(set(started), {0, 1})
+
+    def test_edges_of_timers(self) -> None:
+        """Timers at each edge are met in records that are sound but there."""
+        sound: Set[Tuple[int, int, int]] = set()
+        unsound: Set[Tuple[int, int, int]] = set()
+        rules = {"sound-timer-length", "sound-timer-left"}
+        for data in records():
+            if broken_form(data) is not None:
+                continue
+            record = record_of(data)
+            broken = all_broken_sound(record)
+            if set(broken) <= rules:
+                found = unsound if broken else sound
+                found |= {
+                    (timer.state, timer.length, timer.left)
+                    for timer in record.timers
+                }
+        self.assertEqual(self.SOUND_TIMERS - sound, set())
+        self.assertEqual(self.UNSOUND_TIMERS - unsound, set())
+        self.assertEqual(self.UNSOUND_TIMERS & sound, set())
+
+    def test_cases(self) -> None:
+        """All cases of timers that are wanted are met."""
+        met = [met_by_record(data) for data in records()]
+        self.assertEqual(WANTED_OF_RECORDS - set().union(*met), set())
+
+    def test_laid_out_timers(self) -> None:
+        """Records laid out at random have timers above their length too."""
+        met: Set[str] = set()
+        for index in range(150):
+            record = started_record(chance_for(SEED, 10, index))
+            met |= met_by_record(bytes_of(record))
+        self.assertEqual(met, {
+            "sound, periodic, n + 1 left", "sound, periodic, n and left 65535",
+        })
 
     def test_stopped_states_have_things_in_them(self) -> None:
         """Some stopped records hold threads, mutexes, and all the rest."""

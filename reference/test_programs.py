@@ -107,7 +107,7 @@ class Run(Folder):
     def test_round(self) -> None:
         """E5 from a record file."""
         start = self.put("start", bytes.fromhex(LAST_TICK_COUNT))
-        calls = self.put("calls", row_of("0B 00 00 00 E8 03") + row_of("0D"))
+        calls = self.put("calls", row_of("0B") + row_of("0D"))
         self.assertEqual(
             program("run.py", calls, start, self.path("end")),
             (0, HEADING + b"1 0 255 0\n2 0 1 0\n", b""),
@@ -117,8 +117,8 @@ class Run(Folder):
     def test_stops(self) -> None:
         """What a stop gives stands in the text in full, in decimal."""
         calls = self.put("calls", b"".join(map(row_of, (
-            "04", "05", "01", "0B 00 00 00 FF FF E7 03", "0C",
-            "0B 00 00 01 E8 EB 03", "0D", "0C", "0C",
+            "04", "05", "01", "0B 00 00 00 30 F8 E7 03", "0C",
+            "0B 00 00 01 00 E8 03", "0D", "0C", "0C",
         ))))
         self.assertEqual(program("run.py", calls), (0, HEADING + (
             b"1 0 0 255\n2 0 0 255\n3 0 255 0\n4 0 255 0\n5 0 65535 0\n"
@@ -221,7 +221,8 @@ class Generate(Folder):
 
     def test_same_files_each_time(self) -> None:
         """The same seed gives the same files in every process."""
-        # Of 33 files two are made for stops, from boot and from a record.
+        # Of 33 files two are made for stops and two for delays, one of each
+        # from boot and one from a record.
         found: List[List[Tuple[str, bytes]]] = []
         for name, order in (("one", "1"), ("two", "2")):
             folder = self.path(name)

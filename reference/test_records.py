@@ -1,7 +1,8 @@
 """Tests of load, save and the named rules, on records written by hand.
 
 Two sound records are changed byte by byte. Each change names the first rule
-it breaks, so every clause of document 01 is met by bytes someone can follow.
+it breaks, so every clause of document 01, and of request L5 for timers, is met
+by bytes someone can follow.
 """
 
 from __future__ import annotations
@@ -127,10 +128,24 @@ IN_STARTED: Tuple[Tuple[str, Changes], ...] = (
     ("sound-tie-waiter-base", {68: 3}),
     ("sound-timer-condition-variable", {85: 2}),
     ("sound-timer-condition-variable", {85: 255}),
+    ("sound-timer-length", {86: 0}),
+    ("sound-timer-length", {86: 0, 88: 0}),
+    ("sound-timer-length", {86: 0, 88: 1}),
+    ("sound-timer-length", {84: 2, 86: 0, 88: 0}),
+    ("sound-timer-length", {84: 2, 86: 0, 88: 1}),
+    ("sound-timer-length", {84: 2, 86: 0, 88: 2}),
+    ("sound-timer-length", {94: 0, 95: 0}),
     ("sound-timer-left", {88: 0}),
     ("sound-timer-left", {88: 11}),
-    ("sound-timer-left", {86: 0}),
     ("sound-timer-left", {89: 1}),
+    ("sound-timer-left", {86: 1, 88: 2}),
+    ("sound-timer-left", {86: 254, 87: 255, 88: 255, 89: 255}),
+    ("sound-timer-left", {84: 2, 88: 0}),
+    ("sound-timer-left", {84: 2, 88: 12}),
+    ("sound-timer-left", {84: 2, 89: 1}),
+    ("sound-timer-left", {84: 2, 86: 1, 88: 3}),
+    ("sound-timer-left", {94: 253, 96: 255, 97: 255}),
+    ("sound-timer-left", {96: 0}),
     ("sound-stopped-timer-condition-variable", {77: 0}),
     ("sound-stopped-timer-length", {78: 1}),
     ("sound-stopped-timer-length", {79: 1}),
@@ -164,8 +179,16 @@ STILL_SOUND: Tuple[Changes, ...] = (
     {68: 0},
     {68: 1},
     {88: 1},
+    {86: 1, 88: 1},
     {86: 255, 87: 255, 88: 255, 89: 255},
     {84: 2},
+    {84: 2, 88: 11},
+    {84: 2, 86: 1, 88: 1},
+    {84: 2, 86: 1, 88: 2},
+    {84: 2, 86: 255, 88: 0, 89: 1},
+    {94: 253, 96: 254, 97: 255},
+    {94: 254, 96: 255, 97: 255},
+    {96: 255, 97: 255},
     {61: 5, 62: 1, 51: 0},
     {53: 255, 54: 0},
 )
@@ -277,6 +300,48 @@ class Rules(unittest.TestCase):
         """A ready thread with an object stands in the ready queue still."""
         record = record_of(changed(STARTED, {50: 0}))
         self.assertEqual(all_broken_sound(record), ["sound-object-none"])
+
+    def test_length_is_asked_by_itself(self) -> None:
+        """A periodic timer with n 0 and 1 left breaks no other rule."""
+        record = record_of(changed(STARTED, {84: 2, 86: 0, 88: 1}))
+        self.assertEqual(all_broken_sound(record), ["sound-timer-length"])
+        record = record_of(changed(STARTED, {86: 0, 88: 1}))
+        self.assertEqual(
+            all_broken_sound(record),
+            ["sound-timer-length", "sound-timer-left"],
+        )
+
+    def test_ticks_left_of_each_length(self) -> None:
+        """A one-shot may have 1 to n left, a periodic timer 1 to n + 1."""
+        for state, length, left, rule in (
+            (1, 1, (1,), None),
+            (1, 2, (1, 2), None),
+            (1, 300, (1, 299, 300), None),
+            (1, 65_535, (1, 65_534, 65_535), None),
+            (1, 1, (0, 2, 3, 65_535), "sound-timer-left"),
+            (1, 300, (0, 301, 302, 65_535), "sound-timer-left"),
+            (1, 65_534, (0, 65_535), "sound-timer-left"),
+            (1, 65_535, (0,), "sound-timer-left"),
+            (2, 1, (1, 2), None),
+            (2, 2, (1, 2, 3), None),
+            (2, 300, (1, 300, 301), None),
+            (2, 65_534, (1, 65_534, 65_535), None),
+            (2, 65_535, (1, 65_534, 65_535), None),
+            (2, 1, (0, 3, 4, 65_535), "sound-timer-left"),
+            (2, 300, (0, 302, 303, 65_535), "sound-timer-left"),
+            (2, 65_533, (0, 65_535), "sound-timer-left"),
+            (2, 65_534, (0,), "sound-timer-left"),
+            (2, 65_535, (0,), "sound-timer-left"),
+            (1, 0, (0, 1, 2, 65_535), "sound-timer-length"),
+            (2, 0, (0, 1, 2, 65_535), "sound-timer-length"),
+        ):
+            for one in left:
+                data = changed(STARTED, {
+                    84: state, 86: length % 256, 87: length // 256,
+                    88: one % 256, 89: one // 256,
+                })
+                with self.subTest(state=state, length=length, left=one):
+                    self.assertEqual(broken_rule(data), rule)
 
     def test_sound_rules_stand_alone(self) -> None:
         """Each sound rule can be put to numbers that make no sense at all."""

@@ -11,8 +11,8 @@ import unittest
 from typing import Set
 
 MODULES = (
-    "test_examples", "test_calls", "test_records", "test_breaches",
-    "test_generated", "test_programs",
+    "test_examples", "test_calls", "test_lengths", "test_records",
+    "test_breaches", "test_met", "test_generated", "test_programs",
 )
 
 

@@ -154,7 +154,7 @@ TASTES: Tuple[Taste, ...] = (
           (WILD,)),
 )
 
-# The taste of the walks that are made for stops; no other walk has it.
+# The taste of the walks that are made for stops or delays; no other has it.
 STOPPING = Taste(
     "stopping", (1, 8), (8, 12), (2, 8), (1, 4), (1, 6), (TIMERS, TIMERS),
     (BETWEEN_STOPS,),

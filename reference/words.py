@@ -1,4 +1,4 @@
-"""The words and numbers of document 01.
+"""The words and numbers of document 01, and the lengths of request L5.
 
 Limits, call codes, answer numbers and the states a record knows, each under
 the name the document uses, so that no bare number stands in the other files.
@@ -77,13 +77,38 @@ class Answer(NamedTuple):
 
 
 def length_of(microseconds: int) -> int:
-    """The length n in ticks of a delay in microseconds, rounded down."""
-    return microseconds // MICROSECONDS_PER_TICK
+    """The length n in ticks of a delay in microseconds.
+
+    The delay is rounded up, and the tick in progress, which is partly used,
+    comes on top, so that no timer is due before its delay has passed.
+    """
+    whole, rest = divmod(microseconds, MICROSECONDS_PER_TICK)
+    return whole + (1 if rest > 0 else 0) + 1
 
 
 def delay_of(length: int, rest: int = 0) -> int:
-    """A delay of this length; rest is the microseconds rounding drops."""
-    return length * MICROSECONDS_PER_TICK + rest
+    """A delay of this length; rest is the microseconds rounding adds.
+
+    Length 1 is that of no delay at all, to which rounding adds nothing.
+    """
+    return max((length - 1) * MICROSECONDS_PER_TICK - rest, 0)
+
+
+def repeat_of(length: int) -> int:
+    """The ticks between two expiries of a periodic timer of this length.
+
+    An expiry falls on a tick, so none in progress is added to a repeat.
+    """
+    return max(length - 1, 1)
+
+
+def most_left(state: int, length: int) -> int:
+    """The most ticks left of a running timer whose row has this length.
+
+    The row of a periodic timer has its repeat, and until the first expiry one
+    tick more may be left.
+    """
+    return min(length + 1, LONGEST_LENGTH) if state == PERIODIC else length
 
 
 def spoke_of(tick_count: int, left: int) -> int:

@@ -26,7 +26,7 @@ from words import (  # noqa: E402
     LONGEST_LENGTH, MICROSECONDS_PER_TICK, MUTEXES, NONE, NOT_SOUND, PERIODIC,
     RUNNING, SIGNAL, STOP_TIMER, THREADS, TICK, TICK_COUNT_ROUND,
     TIMER_STOPPED, TIMERS, WAIT, WAITS_FOR_MUTEX, WAITS_ON_CONDITION_VARIABLE,
-    WRONG_FORM, Answer,
+    WRONG_FORM, Answer, delay_of,
 )
 
 __all__ = [
@@ -38,6 +38,6 @@ __all__ = [
     "TICK", "TICK_COUNT_ROUND", "TIMERS", "TIMER_STOPPED", "WAIT",
     "WAITS_FOR_MUTEX", "WAITS_ON_CONDITION_VARIABLE", "WRONG_FORM", "Answer",
     "Broken", "Header", "Record", "TimerEntry", "all_broken_sound",
-    "answer_of", "broken_rule", "first_breach", "header_of", "packed",
-    "record_of", "standing",
+    "answer_of", "broken_rule", "delay_of", "first_breach", "header_of",
+    "packed", "record_of", "standing",
 ]

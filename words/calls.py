@@ -23,7 +23,7 @@ from typing import (
 
 from borrowed import (
     CONDITION_VARIABLES, HIGHEST_PRIORITY, LONGEST_LENGTH,
-    MICROSECONDS_PER_TICK, MUTEXES, THREADS, TIMERS,
+    MICROSECONDS_PER_TICK, MUTEXES, THREADS, TIMERS, delay_of,
 )
 from streams import Trouble, printable
 
@@ -69,10 +69,7 @@ FIELDS: Mapping[str, Field] = {
     "MUTEX": id_field(MUTEX),
     "CONDITION": id_field(CONDITION_VARIABLE),
     "TIMER": id_field(TIMER),
-    "MICROSECONDS": Field(
-        MICROSECONDS_PER_TICK,
-        (LONGEST_LENGTH + 1) * MICROSECONDS_PER_TICK - 1, LARGEST_NUMBER,
-    ),
+    "MICROSECONDS": Field(0, delay_of(LONGEST_LENGTH), LARGEST_NUMBER),
 }
 
 
@@ -112,7 +109,9 @@ FORMS: Tuple[Form, ...] = (
     form(10, "broadcast CONDITION", "signals until none waits"),
     form(11, "start timer TIMER CONDITION KIND MICROSECONDS",
          f"it is due in MICROSECONDS / {MICROSECONDS_PER_TICK} ticks, rounded "
-         "down; a periodic one again and again"),
+         "up, and one more, since the tick in progress is partly used; a "
+         "periodic one again after one tick less each time, but after 1 at "
+         "least"),
     form(12, "stop timer TIMER",
          "the timer is stopped, and the ticks that were left are given"),
     form(13, "tick",

@@ -74,12 +74,18 @@ def ticks(length: int) -> str:
     return f"{length} tick" if length == 1 else f"{length} ticks"
 
 
+def lasting(look: Look) -> str:
+    """How long a timer takes to expire, or to do so again."""
+    often = "every " if look.kind == "periodic" else ""
+    return often + ticks(look.length)
+
+
 def sentence(lane: Lane, look: Look) -> str:
     """What a look says when it is pointed at, without when."""
     name = f"{lane.noun} {lane.identity}"
     if look.kind in TIMER_KINDS:
         return (
-            f"{name} runs, {look.kind}, {ticks(look.length)}, "
+            f"{name} runs, {look.kind}, {lasting(look)}, "
             f"for condition variable {look.identity}"
         )
     verb, noun = SAID[look.kind]
@@ -100,7 +106,7 @@ def words_for(lane: Lane, look: Look) -> Tuple[str, ...]:
     if look.kind in TIMER_KINDS:
         signals = f"condition variable {look.identity}"
         return (
-            f"{look.kind}, {ticks(look.length)}, {signals}",
+            f"{look.kind}, {lasting(look)}, {signals}",
             f"{look.kind}, {signals}", signals, f"{look.identity}",
         )
     return (f"{SAID[look.kind][1]} {look.identity}", f"{look.identity}")

@@ -56,7 +56,7 @@ BY_HAND: Tuple[Tuple[str, str], ...] = (
     ("signal 7", "09 07"),
     ("broadcast 16", "0A 10"),
     ("start timer 1 2 one-shot 1000", "0B 01 02 00 E8 03"),
-    ("start timer 31 0 periodic 65535999", "0B 1F 00 01 FF FF E7 03"),
+    ("start timer 31 0 periodic 65534000", "0B 1F 00 01 30 F8 E7 03"),
     ("start timer 0 0 one-shot 4294967295", "0B 00 00 00 FF FF FF FF"),
     ("stop timer 31", "0C 1F"),
     ("tick", "0D"),
@@ -91,7 +91,7 @@ TROUBLED: Tuple[Tuple[str, int, str], ...] = (
     ("stop timer 256", 1,
      "TIMER is 0 to 31 (a row has room for 0 to 255), not 256"),
     ("start\nstart timer 0 0 periodic 4294967296\n", 2,
-     "MICROSECONDS is 1000 to 65535999 (a row has room for 0 to 4294967295), "
+     "MICROSECONDS is 0 to 65534000 (a row has room for 0 to 4294967295), "
      "not 4294967296"),
     ("create thread four\n", 1, "BASE is a number from 1 to 15, not four"),
     ("create thread -1\n", 1, "not -1"),
@@ -356,10 +356,11 @@ class Rows(Case):
         text = (
             "create thread 0\ncreate thread 16\ncreate thread 255\n"
             "create mutex 255\ncreate timer\ncreate condition variable\n"
-            "signal 255\nstart timer 0 0 periodic 999\n"
-            "start\nsignal 255\nstart timer 0 0 periodic 999\n"
+            "signal 255\nstart timer 0 0 periodic 65534001\n"
+            "start\nsignal 255\nstart timer 0 0 periodic 65534001\n"
             "start timer 0 0 periodic 4294967295\nstop timer 255\n"
-            "start timer 1 0 one-shot 999\nstart timer 0 1 one-shot 999\n"
+            "start timer 1 0 one-shot 65534001\n"
+            "start timer 0 1 one-shot 65534001\n"
             "create thread 16\n"
         )
         answered = [answer.answer for answer in second(read(text).rows)]
@@ -754,7 +755,7 @@ class Expected(Case):
     def test_unmet_at_a_stop(self) -> None:
         """What a stop gives is said as ticks, 255 too; refused it is none."""
         found = read(NAMED + "start\n" + (
-            "start timer pulse ready one-shot 256000\ntick\n"
+            "start timer pulse ready one-shot 255000\ntick\n"
             "stop timer pulse expect 0 256\nstop timer pulse expect 0\n"
         ))
         self.assertEqual(unmet(found, second(found.rows)), [
@@ -765,7 +766,7 @@ class Expected(Case):
         ])
         for given in ("255", "none", "any"):
             found = read(NAMED + "start\n" + (
-                "start timer pulse ready one-shot 255000\n"
+                "start timer pulse ready one-shot 254000\n"
                 f"stop timer pulse expect 0 {given}\n"
             ))
             self.assertEqual(unmet(found, second(found.rows)), [], given)
@@ -874,7 +875,7 @@ acquire 0
 signal filled
 signal filled
 release 3
-start timer 0 filled one-shot 1000
+start timer 0 filled one-shot 0
 tick
 release 0
 acquire 7
@@ -906,7 +907,7 @@ RUN_IN_WORDS = (
      "done, no thread left the condition variable", "thread 2"),
     (14, "thread 2", "release 3", "refused 4: an id that does not exist",
      "thread 2"),
-    (15, "thread 2", "start timer 0 filled one-shot 1000", "done", "thread 2"),
+    (15, "thread 2", "start timer 0 filled one-shot 0", "done", "thread 2"),
     (16, "thread 2", "tick", "done, 1 timer expired", "thread 2"),
     # The mutex goes to thread 1, whose priority is 6 then.
     (17, "thread 2", "release 0", "done", "thread 1 (first)"),
@@ -1066,7 +1067,8 @@ CALLS_BY_HAND: Tuple[Tuple[str, Tuple[str, ...]], ...] = (
                           "owns the tied mutex or waits for it")),
     ("broadcast CONDITION", ("signals until none waits",)),
     ("start timer TIMER CONDITION one-shot|periodic MICROSECONDS",
-     ("due", "MICROSECONDS / 1000 ticks, rounded down", "periodic one again")),
+     ("due", "MICROSECONDS / 1000 ticks, rounded up, and one more",
+      "a periodic one again after one tick less", "but after 1 at least")),
     ("stop timer TIMER", ("is stopped", "ticks that were left")),
     ("tick", ("the count advances", "each timer now due, in order of id")),
 )
@@ -1108,7 +1110,7 @@ class Guide(Case):
         self.assertEqual([" ".join(line.split()) for line in lines[14:]], [
             "BASE 1 to 15", "CEILING 1 to 15", "MUTEX 0 to 15",
             "CONDITION 0 to 15", "TIMER 0 to 31",
-            "MICROSECONDS 1000 to 65535999",
+            "MICROSECONDS 0 to 65534000",
         ])
 
     def test_other_lines(self) -> None:

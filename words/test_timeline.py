@@ -348,7 +348,7 @@ class Marks(unittest.TestCase):
     def test_legend_has_all(self) -> None:
         """Each kind of mark of a run with all of them is in the legend."""
         calls = CALLS + rows("05", "05", "0B 00 00 00 D0 07", "07 03") + rows(
-            "0B 01 00 01 E8 03", "0D"
+            "0B 01 00 01", "0D"
         )
         root = drawn(run_of(calls))
         ground = {"paper", "stripe", "grid", "strong"}
@@ -633,7 +633,7 @@ class Refused(unittest.TestCase):
 # A condition variable and two timers, started: timer 0 one-shot of 2 ticks,
 # timer 1 periodic of 1 tick.
 TIMERS = rows(
-    "04", "05", "05", "01", "0B 00 00 00 D0 07", "0B 01 00 01 E8 03",
+    "04", "05", "05", "01", "0B 00 00 00 E8 03", "0B 01 00 01",
 )
 
 
@@ -658,7 +658,7 @@ class Timers(unittest.TestCase):
             "ticks 0 to 1",
         ])
         self.assertEqual(titles(root, "periodic"), [
-            "timer 1 runs, periodic, 1 tick, for condition variable 0, "
+            "timer 1 runs, periodic, every 1 tick, for condition variable 0, "
             "ticks 0 to 3",
         ])
         self.assertEqual(titles(root, "expiry"), [
@@ -683,7 +683,7 @@ class Timers(unittest.TestCase):
 
     def test_labels(self) -> None:
         """A box says the condition variable, and the kind if it has room."""
-        started = rows("04", "04", "05", "01", "0B 00 01 00 40 9C")
+        started = rows("04", "04", "05", "01", "0B 00 01 00 58 98")
         for count, label in (
             (20, "one-shot, 40 ticks, condition variable 1"),
             (2, "one-shot, condition variable 1"),
@@ -695,8 +695,8 @@ class Timers(unittest.TestCase):
     def test_label_before_the_next_expiry(self) -> None:
         """The words of a box are not under the mark of an expiry."""
         for length, words in (
-            ("88 13", "periodic, 5 ticks, condition variable 0"),
-            ("D0 07", "0"),
+            ("88 13", "periodic, every 5 ticks, condition variable 0"),
+            ("E8 03", "0"),
         ):
             calls = rows("04", "05", "01", "0B 00 00 01 " + length)
             root = drawn(run_of(calls + row("0D") * 20))
@@ -705,7 +705,7 @@ class Timers(unittest.TestCase):
             self.assertEqual(label.text, words)
             lefts, = column_lefts(root)
             middle, half = float(label.get("x", "")), 5.4 * len(words) / 2
-            self.assertLess(middle + half, lefts[5 if half > 10 else 2])
+            self.assertLess(middle + half, lefts[6 if half > 10 else 2])
 
     def test_kinds_are_told_apart(self) -> None:
         """A periodic timer's border is a broken one."""
@@ -727,7 +727,7 @@ class Timers(unittest.TestCase):
 
     def test_long_timer(self) -> None:
         """One of 257 ticks expires at 257, not where its low byte is 1."""
-        started = rows("04", "05", "01", "0B 00 00 00 E8 EB 03")
+        started = rows("04", "05", "01", "0B 00 00 00 00 E8 03")
         roots = all_drawn(run_of(started + row("0D") * 300))
         found = [t for root in roots for t in titles(root, "expiry")]
         self.assertEqual(found, [
@@ -742,7 +742,7 @@ class Timers(unittest.TestCase):
             (folder / "start.record").read_bytes(),
         )
         ticks = {
-            0: (4_294_967_292, 4_294_967_295, 2, 5), 1: (4_294_967_294, 2, 6),
+            0: (4_294_967_292, 4_294_967_295, 2, 5), 1: (4_294_967_295, 3, 7),
         }
         self.assertEqual(titles(drawn(run), "expiry"), [
             f"timer {timer} expires and signals condition variable 0, "

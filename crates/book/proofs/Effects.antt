@@ -20,7 +20,7 @@ use Rattle.rules.specs.Queues as Q
 use Rattle.rules.specs.State.{running, ready, same, Rows, Scheduler, State, withRows, withStarted, firstAt}
 use Rattle.rules.specs.State as S
 use Rattle.rules.specs.Next as N
-use Rattle.rules.specs.Effects.{threadCreated, mutexCreated, conditionCreated, acquired, released, waited, signalled, signalledTimes, leavers, stateOf, ticked, dueConditions, signalledEach, nextCount, withScheduler, effect, given}
+use Rattle.rules.specs.Effects.{threadCreated, mutexCreated, conditionCreated, acquired, released, waited, signalled, signalledTimes, leavers, stateOf, lengthKept, startedTimer, ticked, dueConditions, signalledEach, nextCount, withScheduler, effect, given}
 use Rattle.rules.specs.Effects as E
 use Rattle.rules.specs.Refusals.{tests}
 use Rattle.soundness.proofs.Facts.{Sound}
@@ -30,7 +30,7 @@ use Rattle.soundness.proofs.Creating.{kept-thread, kept-mutex, kept-condition, 
 use Rattle.soundness.proofs.Timers.{due-below}
 use Rattle.soundness.proofs.Keeping.{Clear, kept, going}
 use Rattle.book.specs.Book.{Book, Timer, stoppedTimer, withTimers, nowStarted, nextTick, highestEarliest}
-use Rattle.book.specs.Turns.{Outcome, runFirst, createThread, acquire, release, wait, signal, signals, kindState, expireBelow, outcome}
+use Rattle.book.specs.Turns.{Outcome, runFirst, createThread, acquire, release, wait, signal, signals, kindState, kindLength, expireBelow, outcome}
 use Rattle.book.proofs.Alike.{Alike, threads-alike}
 use Rattle.book.proofs.Next.{alike-first}
 use Rattle.book.proofs.Calls.{alike-acquired, alike-released, alike-waited, alike-signalled, given-signalled, alike-times, given-times}
@@ -143,6 +143,12 @@ unfolding kindState
 kind-alike OneShot = refl
 kind-alike Periodic = refl
 
+-- the n that is kept is the same
+length-alike : (kind : Kind) (n : ℕ) → lengthKept kind n ≡ kindLength kind n
+unfolding kindLength
+length-alike OneShot n = refl
+length-alike Periodic n = refl
+
 module _ {s : State} (o : Sound s) {b : Book} (x : Same s b) (going-on : not (s .scheduler .rows .started) ≡ false) where
   abbrev rows : Rows
   rows = s .scheduler .rows
@@ -248,10 +254,10 @@ module _ {s : State} (o : Sound s) {b : Book} (x : Same s b) where
   call-before-next (Wait d m) c = wait-before-next o x (c .0) d m c
   call-before-next (Signal d) c = signal-before-next o x (c .0) d (leb-false (length (s .scheduler .rows .ties)) d (c .1 .0))
   call-before-next (Broadcast d) c = broadcast-before-next o x (c .0) d (leb-false (length (s .scheduler .rows .ties)) d (c .1 .0))
-  call-before-next (StartTimer i d kind v) c = timed-before-next x o (set (s .timers) i (record { state = stateOf kind; condition = d; length = ticksIn (v .0); left = ticksIn (v .0) }))
-      (set (b .timers) i (record { state = kindState kind; condition = d; length = ticksIn (v .0); due = b .count + ticksIn (v .0) }))
-      (ap₂ (λ ts t. set ts i t) (x .timers) (λ j. record { state = kind-alike kind j; condition = d; length = ticksIn (v .0); left = whole j })
-      ∙ sym (map-set (leftAt (b .count)) (b .timers) i (record { state = kindState kind; condition = d; length = ticksIn (v .0); due = b .count + ticksIn (v .0) })))
+  call-before-next (StartTimer i d kind v) c = timed-before-next x o (set (s .timers) i (startedTimer d kind (ticksIn (v .0))))
+      (set (b .timers) i (record { state = kindState kind; condition = d; length = kindLength kind (ticksIn (v .0)); due = b .count + ticksIn (v .0) }))
+      (ap₂ (λ ts t. set ts i t) (x .timers) (λ j. record { state = kind-alike kind j; condition = d; length = length-alike kind (ticksIn (v .0)) j; left = whole j })
+      ∙ sym (map-set (leftAt (b .count)) (b .timers) i (record { state = kindState kind; condition = d; length = kindLength kind (ticksIn (v .0)); due = b .count + ticksIn (v .0) })))
     where
       whole : ticksIn (v .0) ≡ b .count + ticksIn (v .0) - b .count
       whole = omega arith

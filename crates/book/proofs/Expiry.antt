@@ -1,5 +1,5 @@
 -- A timer set for n ticks is among those that a tick expires exactly at the nth accepted tick after its start, unless it is stopped first, and a
--- periodic one again at each nth after that. The answer to a tick counts those that it expires, and each signals its condition variable.
+-- periodic one again each time its repeat has passed since. The answer to a tick counts those that it expires, and each signals its condition variable.
 -- Assumes nothing.
 use Prim.Native.Nat.{ℕ, zero, suc, _+_, _-_, _*_, _<_, _≤_}
 use mathlib.Core.Path.{_≡_, refl, sym, ap, ap₂, _∙_, subst}
@@ -13,7 +13,7 @@ use lib.Dec.{eqb, leb}
 use borrow.Author.Tests.{eqb-false, eq-eqb, ne-eqb, leb-false}
 use Rattle.laws.specs.Bools.{by-cases, no-way, nor-left, and-true, and-false}
 use Rattle.laws.specs.Lists.{by-equal}
-use Rattle.units.specs.Units.{ticksIn}
+use Rattle.units.specs.Units.{ticksIn, repeatOf}
 use Rattle.units.specs.declared.Micros.{Micros}
 use Rattle.calls.specs.declared.Call.{Call}
 use Rattle.calls.specs.declared.Call.the-variants.{Start, CreateThread, CreateMutex, CreateCondition, CreateTimer, Acquire, Release, Wait, Signal, Broadcast, StartTimer, StopTimer, Tick}
@@ -22,15 +22,15 @@ use Rattle.calls.specs.declared.Decoded.the-variants.{Taken, WrongForm}
 use Rattle.calls.specs.declared.Kind.{Kind}
 use Rattle.calls.specs.declared.Kind.the-variants.{OneShot, Periodic}
 use Rattle.calls.specs.Answers.{numberOf}
-use Rattle.rules.specs.State.{periodic, Timer, State, stoppedTimer, timer}
-use Rattle.rules.specs.Effects.{goes, stateOf, isDue, afterDue, ticked, dueConditions, signalledEach, effect, given}
+use Rattle.rules.specs.State.{Timer, State, stoppedTimer, timer}
+use Rattle.rules.specs.Effects.{goes, stateOf, startedTimer, isDue, afterDue, ticked, dueConditions, signalledEach, effect, given}
 use Rattle.rules.specs.Refusals.{tests, verdictOf}
 use Rattle.rules.specs.Sound.{mem, sound}
 use Rattle.rules.specs.Step.{Stepped, after, step, stepDecoded}
 use Rattle.soundness.proofs.Keeping.{Clear}
 use Rattle.soundness.proofs.Kept.{soundness-is-kept, decoded-keeps}
 use Rattle.book.specs.Answers.{answersOf, finalOf}
-use Rattle.book.specs.History.{callNumber, accepts, ticksTaken, NeverStops, dueFrom, expiring, Expires, TickExpires, phase}
+use Rattle.book.specs.History.{callNumber, accepts, ticksTaken, NeverStops, dueFrom, expiring, Expires, TickExpires, repeating, phase}
 use Rattle.book.proofs.Accepted.{by-answer, after-unchosen}
 
 -- ---- the timers that a tick expires
@@ -104,7 +104,7 @@ module _ (s : State) (i : ℕ) (exists : i < length (s .timers)) (runs : goes (t
   effect-timer (Wait d m) n c = refl
   effect-timer (Signal d) n c = refl
   effect-timer (Broadcast d) n c = refl
-  effect-timer (StartTimer j d kind v) n c = getD-set-other (s .timers) j i (record { state = stateOf kind; condition = d; length = ticksIn (v .0); left = ticksIn (v .0) }) stoppedTimer
+  effect-timer (StartTimer j d kind v) n c = getD-set-other (s .timers) j i (startedTimer d kind (ticksIn (v .0))) stoppedTimer
       (λ e. no-way (goes (timer (s .timers) i .state)) runs (ap (λ k. goes (timer (s .timers) k .state)) e ∙ c .1 .1 .1 .0))
   effect-timer (StopTimer j) n c = getD-set-other (s .timers) j i stoppedTimer stoppedTimer (λ e. n (ap StopTimer (sym e)))
   effect-timer Tick n c = unfold ticked in (List·getD-map ticked (s .timers) i stoppedTimer)
@@ -122,7 +122,7 @@ effect-length s (Release m) = omega arith
 effect-length s (Wait d m) = omega arith
 effect-length s (Signal d) = omega arith
 effect-length s (Broadcast d) = omega arith
-effect-length s (StartTimer j d kind v) = omega (arith, length-set (s .timers) j (record { state = stateOf kind; condition = d; length = ticksIn (v .0); left = ticksIn (v .0) }))
+effect-length s (StartTimer j d kind v) = omega (arith, length-set (s .timers) j (startedTimer d kind (ticksIn (v .0))))
 effect-length s (StopTimer j) = omega (arith, length-set (s .timers) j stoppedTimer)
 effect-length s Tick = omega (arith, length-map (s .timers) ticked)
 
@@ -208,26 +208,19 @@ timer-runs-on (row ∷ rows) s e i l r n d = go (ticks s row) refl d (timer-runs
 
 -- ---- a periodic timer, again and again
 
--- one more tick: it is one tick on, or due and at its beginning again
-phase-ticked : (n c k : ℕ) → k + 1 < n → ticked (phase n c k) ≡ phase n c (k + 1)
-phase-ticked n c k l =
-    let less : n - k - 1 ≡ n - (k + 1) = omega arith in
-    ticked-fewer (phase n c k) (omega arith) ∙ (λ j. record { state = periodic; condition = c; length = n; left = less j })
-
-phase-due : (n c k : ℕ) → k + 1 ≡ n → ticked (phase n c k) ≡ phase n c 0
+-- the tick that it is due at leaves it all of its n ticks again
+repeating-due : (n c : ℕ) → ticked (repeating n c 1) ≡ repeating n c n
 unfolding ticked
-phase-due n c k q =
-    let all : n ≡ n - 0 = omega arith in
-    rw (eq-eqb (n - k) 1 (omega arith)) (λ j. record { state = periodic; condition = c; length = n; left = all j })
+repeating-due n c = refl
 
--- after a number of whole turns and k ticks more it is k ticks on
-pub timer-runs-again : (rows : List Decoded) (s : State) → sound s ≡ true → (i n c p : ℕ) → i < length (s .timers) → timer (s .timers) i ≡ phase n c p → p < n → NeverStops i rows
-    → (turns k : ℕ) → k < n → p + ticksTaken rows (answersOf s rows) ≡ turns * n + k → timer (finalOf s rows .timers) i ≡ phase n c k
+-- after the ticks that are left to it, a number of whole turns and k ticks more, it is k ticks past its last expiry
+pub timer-runs-again : (rows : List Decoded) (s : State) → sound s ≡ true → (i n c left : ℕ) → i < length (s .timers) → timer (s .timers) i ≡ repeating n c left → 1 ≤ left → NeverStops i rows
+    → (turns k : ℕ) → k < n → ticksTaken rows (answersOf s rows) ≡ left + (turns * n + k) → timer (finalOf s rows .timers) i ≡ phase n c k
 unfolding finalOf answersOf ticksTaken
-timer-runs-again [] s e i n c p l is small stops zero k less sum = is ∙ ap (phase n c) (omega arith)
-timer-runs-again [] s e i n c p l is small stops (suc turns) k less sum = absurd (omega arith)
-timer-runs-again (row ∷ rows) s e i n c p l is small stops turns k less sum = go (ticks s row) refl sum
-    (λ q turned at-q short total. timer-runs-again rows (stepDecoded s row .state) (decoded-keeps s row e) i n c q (row-exists s e i l (ap (λ (x : Timer). goes (x .state)) is) row) at-q short (stops .1) turned k less total)
+timer-runs-again [] s e i n c left l is some stops turns k less sum = absurd (omega arith)
+timer-runs-again (row ∷ rows) s e i n c left l is some stops turns k less sum = go (ticks s row) refl sum
+    (λ again turned at-again more total. timer-runs-again rows next kept i n c again exists at-again more (stops .1) turned k less total)
+    (λ at-n total. timer-runs-on rows next kept i exists (ap (λ (x : Timer). goes (x .state)) at-n) (stops .1) (subst (λ (x : Timer). rest < x .left) (sym at-n) (omega arith)) ∙ ap₂ fewer total at-n)
   where
     next : State
     next = stepDecoded s row .state
@@ -235,32 +228,45 @@ timer-runs-again (row ∷ rows) s e i n c p l is small stops turns k less sum = 
     rest : ℕ
     rest = ticksAfter s row rows
 
+    runs : goes (timer (s .timers) i .state) ≡ true
+    runs = ap (λ (x : Timer). goes (x .state)) is
+
+    kept : sound next ≡ true
+    kept = decoded-keeps s row e
+
+    exists : i < length (next .timers)
+    exists = row-exists s e i l runs row
+
     stepped : timer (next .timers) i ≡ cond (ticks s row) (ticked (timer (s .timers) i)) (timer (s .timers) i)
-    stepped = row-timer s e i l (ap (λ (x : Timer). goes (x .state)) is) row (stops .0)
+    stepped = row-timer s e i l runs row (stops .0)
 
-    -- the rows that follow, q ticks on
-    Follow : Type 0
-    Follow = (q turned : ℕ) → timer (next .timers) i ≡ phase n c q → q < n → q + rest ≡ turned * n + k → timer (finalOf next rows .timers) i ≡ phase n c k
+    -- the rows that follow: it is due once more at least, or not any more
+    Due : Type 0
+    Due = (again turned : ℕ) → timer (next .timers) i ≡ repeating n c again → 1 ≤ again → rest ≡ again + (turned * n + k) → timer (finalOf next rows .timers) i ≡ phase n c k
 
-    turn-over : (turned : ℕ) → p + 1 ≡ n → p + (1 + rest) ≡ turned * n + k → timer (next .timers) i ≡ phase n c 0 → Follow → timer (finalOf next rows .timers) i ≡ phase n c k
-    turn-over zero q total at-0 from = absurd (omega arith)
-    turn-over (suc turned) q total at-0 from = from 0 turned at-0 (omega arith) (omega arith)
+    Last : Type 0
+    Last = timer (next .timers) i ≡ repeating n c n → rest ≡ k → timer (finalOf next rows .timers) i ≡ phase n c k
 
-    go : (y : Bool) → ticks s row ≡ y → p + (cond y 1 0 + rest) ≡ turns * n + k → Follow → timer (finalOf next rows .timers) i ≡ phase n c k
-    go true q total from =
-        let ticks-on : timer (next .timers) i ≡ ticked (phase n c p) = stepped ∙ ap (λ y. cond y (ticked (timer (s .timers) i)) (timer (s .timers) i)) q ∙ ap ticked is in
-        by-equal (p + 1) n
-        (λ z. turn-over turns z total (ticks-on ∙ phase-due n c p z) from)
-        (λ z. from (p + 1) turns (ticks-on ∙ phase-ticked n c p (omega arith)) (omega arith) (omega arith))
-    go false q total from = from p turns (stepped ∙ ap (λ y. cond y (ticked (timer (s .timers) i)) (timer (s .timers) i)) q ∙ is) small (omega arith)
+    -- at the tick that it is due at
+    turn-over : (turned : ℕ) → rest ≡ turned * n + k → timer (next .timers) i ≡ repeating n c n → Due → Last → timer (finalOf next rows .timers) i ≡ phase n c k
+    turn-over zero total at-n due last = last at-n (omega arith)
+    turn-over (suc turned) total at-n due last = due n turned at-n (omega arith) (omega arith)
+
+    go : (y : Bool) → ticks s row ≡ y → cond y 1 0 + rest ≡ left + (turns * n + k) → Due → Last → timer (finalOf next rows .timers) i ≡ phase n c k
+    go true q total due last =
+        let ticks-on : timer (next .timers) i ≡ ticked (repeating n c left) = stepped ∙ ap (λ y. cond y (ticked (timer (s .timers) i)) (timer (s .timers) i)) q ∙ ap ticked is in
+        by-equal left 1
+        (λ z. turn-over turns (omega arith) (ticks-on ∙ ap (λ m. ticked (repeating n c m)) z ∙ repeating-due n c) due last)
+        (λ z. due (left - 1) turns (ticks-on ∙ ticked-fewer (repeating n c left) (omega arith)) (omega arith) (omega arith))
+    go false q total due last = due left turns (stepped ∙ ap (λ y. cond y (ticked (timer (s .timers) i)) (timer (s .timers) i)) q ∙ is) some (omega arith)
 
 -- ---- from its start
 
 -- a timer as it is set
 abbrev pub newTimer : ℕ → Kind → Micros → Timer
-newTimer c kind v = record { state = stateOf kind; condition = c; length = ticksIn (v .0); left = ticksIn (v .0) }
+newTimer c kind v = startedTimer c kind (ticksIn (v .0))
 
--- a timer that was started has its whole length left
+-- a timer that was started has all its ticks left
 pub timer-set : (s : State) → sound s ≡ true → (i c : ℕ) (kind : Kind) (v : Micros) → step s (StartTimer i c kind v) .answer .number ≡ 0
     → (i < length (step s (StartTimer i c kind v) .state .timers)) × (timer (step s (StartTimer i c kind v) .state .timers) i ≡ newTimer c kind v)
 timer-set s e i c kind v z = by-answer s e (StartTimer i c kind v)
@@ -304,16 +310,14 @@ module _ (s : State) (e : sound s ≡ true) (i c : ℕ) (v : Micros) where
       timer-runs-on rows t (soundness-is-kept s (StartTimer i c kind v) e) i (set .0) (ap (λ (x : Timer). goes (x .state)) (set .1) ∙ goes-kind kind) n
       (subst (λ (x : Timer). past < x .left) (sym (set .1)) d) ∙ ap (fewer past) (set .1)
 
-  -- and a periodic one k accepted ticks after it was last due, or started, has n less k left
+  -- and a periodic one k accepted ticks after it last expired has its repeat less k left
   pub timer-since-due : step s (StartTimer i c Periodic v) .answer .number ≡ 0 → (rows : List Decoded) → NeverStops i rows
-      → (turns k : ℕ) → k < ticksIn (v .0) → ticksTaken rows (answersOf (step s (StartTimer i c Periodic v) .state) rows) ≡ turns * ticksIn (v .0) + k
-      → timer (finalOf (step s (StartTimer i c Periodic v) .state) rows .timers) i ≡ phase (ticksIn (v .0)) c k
+      → (turns k : ℕ) → k < repeatOf (ticksIn (v .0)) → ticksTaken rows (answersOf (step s (StartTimer i c Periodic v) .state) rows) ≡ ticksIn (v .0) + (turns * repeatOf (ticksIn (v .0)) + k)
+      → timer (finalOf (step s (StartTimer i c Periodic v) .state) rows .timers) i ≡ phase (repeatOf (ticksIn (v .0))) c k
   timer-since-due z rows n turns k less total =
       let t = step s (StartTimer i c Periodic v) .state in
       let set = timer-set s e i c Periodic v z in
-      let whole : ticksIn (v .0) ≡ ticksIn (v .0) - 0 = omega arith in
-      let new : timer (t .timers) i ≡ phase (ticksIn (v .0)) c 0 = set .1 ∙ (λ j. record { state = periodic; condition = c; length = ticksIn (v .0); left = whole j }) in
-      timer-runs-again rows t (soundness-is-kept s (StartTimer i c Periodic v) e) i (ticksIn (v .0)) c 0 (set .0) new (omega arith) n turns k less (zero-add _ ∙ total)
+      timer-runs-again rows t (soundness-is-kept s (StartTimer i c Periodic v) e) i (repeatOf (ticksIn (v .0))) c (ticksIn (v .0)) (set .0) (set .1) (omega arith) n turns k less total
 
   -- a timer set for n ticks is among those that a tick expires at the nth accepted tick after its start, and at none before, unless it is stopped first
   pub expires-at-its-tick : (kind : Kind) → step s (StartTimer i c kind v) .answer .number ≡ 0 → (rows : List Decoded) → NeverStops i rows
@@ -324,9 +328,10 @@ module _ (s : State) (e : sound s ≡ true) (i c : ℕ) (v : Micros) where
       let past = ticksTaken rows (answersOf t rows) in
       known-expires (finalOf t rows) i (fewer past (newTimer c kind v)) _ (timer-since-start kind z rows n d) (goes-kind kind) (one-left (ticksIn (v .0)) past d)
 
-  -- and a periodic one again n accepted ticks later, each time, and at none between
+  -- and a periodic one again its repeat later, each time, and at none between
   pub expires-again : step s (StartTimer i c Periodic v) .answer .number ≡ 0 → (rows : List Decoded) → NeverStops i rows
-      → (turns k : ℕ) → k < ticksIn (v .0) → ticksTaken rows (answersOf (step s (StartTimer i c Periodic v) .state) rows) ≡ turns * ticksIn (v .0) + k
-      → Expires (finalOf (step s (StartTimer i c Periodic v) .state) rows) i c (eqb (k + 1) (ticksIn (v .0)))
+      → (turns k : ℕ) → k < repeatOf (ticksIn (v .0)) → ticksTaken rows (answersOf (step s (StartTimer i c Periodic v) .state) rows) ≡ ticksIn (v .0) + (turns * repeatOf (ticksIn (v .0)) + k)
+      → Expires (finalOf (step s (StartTimer i c Periodic v) .state) rows) i c (eqb (k + 1) (repeatOf (ticksIn (v .0))))
   expires-again z rows n turns k less total =
-      known-expires (finalOf (step s (StartTimer i c Periodic v) .state) rows) i (phase (ticksIn (v .0)) c k) _ (timer-since-due z rows n turns k less total) refl (one-left (ticksIn (v .0)) k less)
+      let again = repeatOf (ticksIn (v .0)) in
+      known-expires (finalOf (step s (StartTimer i c Periodic v) .state) rows) i (phase again c k) _ (timer-since-due z rows n turns k less total) refl (one-left again k less)

@@ -18,7 +18,7 @@ use Rattle.calls.specs.declared.Decoded.{Decoded}
 use Rattle.calls.specs.declared.Decoded.the-variants.{Taken, WrongForm}
 use Rattle.rules.specs.State.{ready, Thread, Timer, Rows, Scheduler, State, stoppedTimer, withThreads, withRows}
 use Rattle.rules.specs.Next.{chooseNext}
-use Rattle.rules.specs.Effects.{stateOf, ticked, threadCreated, mutexCreated, conditionCreated, dueConditions, withScheduler, withTimers, effect, given}
+use Rattle.rules.specs.Effects.{startedTimer, ticked, threadCreated, mutexCreated, conditionCreated, dueConditions, withScheduler, withTimers, effect, given}
 use Rattle.rules.specs.Sound.{sound}
 use Rattle.rules.specs.Step.{Stepped, isTick, after, step, stepDecoded}
 use Rattle.soundness.proofs.Sizes.{Sizes, sizes-same, sizes-arrive, sizes-first, sizes-next, sizes-acquired, sizes-released, sizes-waited, sizes-signalled, sizes-times, sizes-each}
@@ -151,7 +151,7 @@ effect-size x s (Release m) = kept x s (Release m) _ (inr (omega arith)) (sizes-
 effect-size x s (Wait c m) = kept x s (Wait c m) _ (inr (omega arith)) (sizes-alike (sizes-waited (s .scheduler) c m))
 effect-size x s (Signal c) = kept x s (Signal c) _ (inr (omega arith)) (sizes-alike (sizes-signalled (s .scheduler) c))
 effect-size x s (Broadcast c) = kept x s (Broadcast c) _ (inr (omega arith)) (sizes-alike (sizes-times 32 (s .scheduler) c))
-effect-size x s (StartTimer i c kind v) = timed x s (StartTimer i c kind v) _ (inr (omega arith)) (length-set (s .timers) i (record { state = stateOf kind; condition = c; length = ticksIn (v .0); left = ticksIn (v .0) }))
+effect-size x s (StartTimer i c kind v) = timed x s (StartTimer i c kind v) _ (inr (omega arith)) (length-set (s .timers) i (startedTimer c kind (ticksIn (v .0))))
 effect-size x s (StopTimer i) = timed x s (StopTimer i) _ (inr (omega arith)) (length-set (s .timers) i stoppedTimer)
 effect-size x s Tick = uncreated x s Tick (effect s Tick) (inr (omega arith)) (size-same x s (effect s Tick) (sizes-each (dueConditions (s .timers)) (s .scheduler)) (length-map (s .timers) ticked))
 

@@ -1,5 +1,5 @@
 -- What a stop gives: a stop of a running timer is done and gives what was left to it, 1 to 65,535 ticks. Of a timer set for n ticks that is n less the
--- accepted ticks since its start, and of a periodic one n less those since it last expired.
+-- accepted ticks since its start, and of a periodic one that has expired its repeat less those since it last did.
 -- Assumes nothing.
 use Prim.Native.Nat.{ℕ, _-_, _+_, _*_, _<_, _≤_}
 use mathlib.Core.Path.{_≡_, refl, sym, ap, _∙_, subst}
@@ -10,7 +10,7 @@ use lib.ListN.{length, List·getD-eq-default}
 use borrow.Author.Tests.{eqb-false, lt-leb, not-false}
 use Rattle.laws.specs.Bools.{by-cases, no-way}
 use Rattle.laws.specs.Lists.{by-below}
-use Rattle.units.specs.Units.{ticksIn}
+use Rattle.units.specs.Units.{ticksIn, repeatOf}
 use Rattle.units.specs.declared.Micros.{Micros}
 use Rattle.calls.specs.declared.Call.the-variants.{StartTimer, StopTimer}
 use Rattle.calls.specs.declared.Decoded.{Decoded}
@@ -25,9 +25,9 @@ use Rattle.rules.specs.Sound.{sound}
 use Rattle.rules.specs.Step.{Stepped, step}
 use Rattle.soundness.proofs.Tested.{sound-facts}
 use Rattle.soundness.proofs.Kept.{soundness-is-kept}
-use Rattle.soundness.proofs.Timers.{timer-at, going-timer, none-goes-at}
+use Rattle.soundness.proofs.Timers.{Goes, timer-at, going-timer, none-goes-at}
 use Rattle.book.specs.Answers.{answersOf, finalOf}
-use Rattle.book.specs.History.{ticksTaken, NeverStops, phase, GivesTicks}
+use Rattle.book.specs.History.{ticksTaken, NeverStops, repeating, phase, GivesTicks}
 use Rattle.book.proofs.Accepted.{by-answer}
 use Rattle.book.proofs.Demand.{rows-keep}
 use Rattle.book.proofs.Expiry.{fewer, newTimer, goes-kind, timer-runs-on, timer-runs-again, timer-since-start, timer-since-due}
@@ -40,6 +40,10 @@ module _ (s : State) (e : sound s ≡ true) (i : ℕ) (runs : goes (timer (s .ti
   exists : i < length (s .timers)
   exists = by-below i (length (s .timers)) (λ l. l)
       (λ l. no-way (goes (timer (s .timers) i .state)) runs (ap (λ (x : Timer). goes (x .state)) (List·getD-eq-default (s .timers) stoppedTimer {n = i} l)))
+
+  -- what it has
+  goes-on : Goes (length (s .scheduler .rows .ties)) (timer (s .timers) i)
+  goes-on = going-timer (s .scheduler .rows) (timer (s .timers) i) runs (timer-at (s .scheduler .rows) (s .timers) (sound-facts s e .timers) i)
 
   -- the scheduler is started, since before that no timer runs
   on : s .scheduler .rows .started ≡ true
@@ -68,9 +72,9 @@ pub stop-gives-1-to-65535 : (s : State) → sound s ≡ true → (i : ℕ) → s
     → (1 ≤ step s (StopTimer i) .answer .given) × (step s (StopTimer i) .answer .given ≤ 65535)
 stop-gives-1-to-65535 s e i z =
     let runs = done-runs s e i z in
-    let goes-on = going-timer (s .scheduler .rows) (timer (s .timers) i) runs (timer-at (s .scheduler .rows) (s .timers) (sound-facts s e .timers) i) in
+    let running = goes-on s e i runs in
     let gives = running-stop-gives s e i runs .given in
-    (omega (arith, gives, goes-on .some), omega (arith, gives, goes-on .most, goes-on .fits))
+    (omega (arith, gives, running .some), omega (arith, gives, running .short))
 
 -- a timer that is known
 known-stop-gives : (s : State) → sound s ≡ true → (i : ℕ) (x : Timer) → timer (s .timers) i ≡ x → goes (x .state) ≡ true → GivesTicks (step s (StopTimer i) .answer) (x .left)
@@ -88,12 +92,13 @@ stop-gives-what-is-left s e i runs rows never few =
     known-stop-gives (finalOf s rows) (rows-keep s e rows) i (fewer (ticksTaken rows (answersOf s rows)) (timer (s .timers) i))
     (timer-runs-on rows s e i (exists s e i runs) runs never few) runs
 
--- of a periodic one of length n, which has n less p left there: n less the accepted ticks since it last expired
-pub periodic-stop-gives : (s : State) → sound s ≡ true → (i n c p : ℕ) → timer (s .timers) i ≡ phase n c p → p < n → (rows : List Decoded) → NeverStops i rows
-    → (turns k : ℕ) → k < n → p + ticksTaken rows (answersOf s rows) ≡ turns * n + k → GivesTicks (step (finalOf s rows) (StopTimer i) .answer) (n - k)
-periodic-stop-gives s e i n c p is small rows never turns k less total =
-    known-stop-gives (finalOf s rows) (rows-keep s e rows) i (phase n c k)
-    (timer-runs-again rows s e i n c p (exists s e i (ap (λ (x : Timer). goes (x .state)) is)) is small never turns k less total) refl
+-- of a periodic one that keeps n: once the ticks that are left to it there have passed, n less the accepted ticks since it last expired
+pub periodic-stop-gives : (s : State) → sound s ≡ true → (i n c left : ℕ) → timer (s .timers) i ≡ repeating n c left → (rows : List Decoded) → NeverStops i rows
+    → (turns k : ℕ) → k < n → ticksTaken rows (answersOf s rows) ≡ left + (turns * n + k) → GivesTicks (step (finalOf s rows) (StopTimer i) .answer) (n - k)
+periodic-stop-gives s e i n c left is rows never turns k less total =
+    let runs = ap (λ (x : Timer). goes (x .state)) is in
+    let some = subst (λ (x : Timer). 1 ≤ x .left) is (goes-on s e i runs .some) in
+    known-stop-gives (finalOf s rows) (rows-keep s e rows) i (phase n c k) (timer-runs-again rows s e i n c left (exists s e i runs) is some never turns k less total) refl
 
 module _ (s : State) (e : sound s ≡ true) (i c : ℕ) (v : Micros) where
   -- of a timer set for n ticks: n less the accepted ticks since its start, until it is due
@@ -105,11 +110,11 @@ module _ (s : State) (e : sound s ≡ true) (i c : ℕ) (v : Micros) where
       known-stop-gives (finalOf t rows) (rows-keep t (soundness-is-kept s (StartTimer i c kind v) e) rows) i (fewer (ticksTaken rows (answersOf t rows)) (newTimer c kind v))
       (timer-since-start s e i c v kind z rows never few) (goes-kind kind)
 
-  -- of a periodic one: n less the accepted ticks since it last expired
+  -- of a periodic one: its repeat less the accepted ticks since it last expired
   pub stop-gives-since-last-expiry : step s (StartTimer i c Periodic v) .answer .number ≡ 0 → (rows : List Decoded) → NeverStops i rows
-      → (turns k : ℕ) → k < ticksIn (v .0) → ticksTaken rows (answersOf (step s (StartTimer i c Periodic v) .state) rows) ≡ turns * ticksIn (v .0) + k
-      → GivesTicks (step (finalOf (step s (StartTimer i c Periodic v) .state) rows) (StopTimer i) .answer) (ticksIn (v .0) - k)
+      → (turns k : ℕ) → k < repeatOf (ticksIn (v .0)) → ticksTaken rows (answersOf (step s (StartTimer i c Periodic v) .state) rows) ≡ ticksIn (v .0) + (turns * repeatOf (ticksIn (v .0)) + k)
+      → GivesTicks (step (finalOf (step s (StartTimer i c Periodic v) .state) rows) (StopTimer i) .answer) (repeatOf (ticksIn (v .0)) - k)
   stop-gives-since-last-expiry z rows never turns k less total =
       let t = step s (StartTimer i c Periodic v) .state in
-      known-stop-gives (finalOf t rows) (rows-keep t (soundness-is-kept s (StartTimer i c Periodic v) e) rows) i (phase (ticksIn (v .0)) c k)
+      known-stop-gives (finalOf t rows) (rows-keep t (soundness-is-kept s (StartTimer i c Periodic v) e) rows) i (phase (repeatOf (ticksIn (v .0))) c k)
       (timer-since-due s e i c v z rows never turns k less total) refl

@@ -71,9 +71,13 @@ pub record TickExpires (s : State) : Type 0 where
   pub counted : accepted s Tick .answer .given ≡ length (expiring s)
   pub signals : effect s Tick .scheduler ≡ signalledEach (s .scheduler) (map (λ i. timer (s .timers) i .condition) (expiring s))
 
--- a periodic timer of length n that signals c, k ticks after it was last due or started
+-- a running periodic timer that keeps n, signals c and has this many ticks left
+abbrev pub repeating : ℕ → ℕ → ℕ → Timer
+repeating n c left = record { state = periodic; condition = c; length = n; left = left }
+
+-- k ticks after it last expired it has n less k left
 abbrev pub phase : ℕ → ℕ → ℕ → Timer
-phase n c k = record { state = periodic; condition = c; length = n; left = n - k }
+phase n c k = repeating n c (n - k)
 
 -- a stop was done, and gave this many ticks
 pub record GivesTicks (answer : Answer) (many : ℕ) : Type 0 where

@@ -6,7 +6,7 @@ use mathlib.Core.List.{List, [], _∷_, _++_}
 use lib.ListN.{length, set}
 use lib.Dec.{eqb, ltb, leb}
 use lib.IntN.{pos}
-use Rattle.units.specs.Units.{outside, ticksIn}
+use Rattle.units.specs.Units.{outside, ticksIn, repeatOf, tooLong}
 use Rattle.calls.specs.declared.Call.{Call}
 use Rattle.calls.specs.declared.Call.the-variants.{Start, CreateThread, CreateMutex, CreateCondition, CreateTimer, Acquire, Release, Wait, Signal, Broadcast, StartTimer, StopTimer, Tick}
 use Rattle.calls.specs.declared.Kind.{Kind}
@@ -42,6 +42,11 @@ unfoldable pub kindState : Kind → TimerState
 kindState OneShot = oneShot
 kindState Periodic = periodic
 
+-- the n that a timer keeps by the kind it is started with: a periodic one's is the ticks from one expiry to the next (document 02, L5)
+unfoldable pub kindLength : Kind → ℕ → ℕ
+kindLength OneShot n = n
+kindLength Periodic n = repeatOf n
+
 -- why a call is refused: of all that apply the first in the order 2, 3, 4, 6, 7, 5, then by number; if none applies it is done.
 -- A caller that owns the mutex of a wait owns another if it owns more than one
 unfoldable pub verdict : Book → Call → Verdict
@@ -72,7 +77,7 @@ verdict b (Broadcast c) = cond (not (b .started)) Stopped (cond (leb (length (b 
 verdict b (StartTimer i c kind v) =
     cond (not (b .started)) Stopped
     (cond (leb (length (b .timers)) i || leb (length (b .ties)) c) NoSuchId
-    (cond (outside 1 65535 (ticksIn (v .0))) OutOfRange
+    (cond (tooLong (ticksIn (v .0))) OutOfRange
     (cond (runs (timer b i .state)) TimerRunning Done)))
 verdict b (StopTimer i) =
     cond (not (b .started)) Stopped
@@ -186,7 +191,8 @@ outcome b (Wait c m) = plainly (wait b c m)
 outcome b (Signal c) = signal b c
 outcome b (Broadcast c) = signals (length (b .threads)) b c
 outcome b (StartTimer i c kind v) =
-    plainly (withTimers b (set (b .timers) i (record { state = kindState kind; condition = c; length = ticksIn (v .0); due = b .count + ticksIn (v .0) })))
+    let n = ticksIn (v .0) in
+    plainly (withTimers b (set (b .timers) i (record { state = kindState kind; condition = c; length = kindLength kind n; due = b .count + n })))
 outcome b (StopTimer i) = record { book = withTimers b (set (b .timers) i stoppedTimer); given = timer b i .due - b .count }
 outcome b Tick = expireBelow (length (b .timers)) (nextTick b)
 

@@ -1,14 +1,14 @@
 -- What the tests of a whole page make of its tables: the code's promises cite these.
 -- An id is taken modulo the size of its table.
 -- Assumes nothing.
-use Prim.Native.Nat.{ℕ, _%_}
+use Prim.Native.Nat.{ℕ, _+_, _%_}
 use mathlib.Core.Bool.{Bool, cond, not, _&&_}
 use mathlib.Core.List.{List}
 use lib.ListN.{getD}
 use lib.Dec.{eqb, ltb, leb}
 use Rattle.units.specs.Units.{outside}
 use Rattle.rules.specs.Effects.{goes}
-use Rattle.rules.specs.Sound.{each, implies}
+use Rattle.rules.specs.Sound.{each, implies, mostLeft}
 use Rattle.rules.specs.Page.{timerStateOf, runnerFrom, timerFormed}
 use Rattle.page.specs.declared.TimerRow.{TimerRow}
 use Rattle.page.specs.declared.Page.{Page}
@@ -24,10 +24,15 @@ use Rattle.objects.specs.Models.{mutexesFit, conditionsFit}
 abbrev pub timerAt : List TimerRow → ℕ → TimerRow
 timerAt rows i = getD rows (i % 32) noTimerRow
 
--- a running timer has an existing condition variable and ticks left from 1 to n, a stopped one 255, 0 and 0
+-- the n of a running timer and its ticks left: from 1 to 65,535 both, and left at most n for a one-shot, which expires once, else n + 1
+unfoldable pub ticksFit : Bool → ℕ → ℕ → Bool
+ticksFit once n left = not (outside 1 65535 n) && not (outside 1 65535 left) && leb left (cond once n (n + 1))
+
+-- a running timer has an existing condition variable, n from 1 to 65,535 and ticks left from 1 to the most of its state; a stopped one 255, 0 and 0
 unfoldable pub runsOn : ℕ → TimerRow → Bool
 runsOn n row =
-    cond (goes (timerStateOf (row .state))) (ltb (row .condition) n && leb 1 (row .left .0) && leb (row .left .0) (row .length .0) && leb (row .length .0) 65535)
+    cond (goes (timerStateOf (row .state)))
+    (ltb (row .condition) n && not (outside 1 65535 (row .length .0)) && not (outside 1 65535 (row .left .0)) && leb (row .left .0) (mostLeft (timerStateOf (row .state)) (row .length .0)))
     (eqb (row .condition) 255 && eqb (row .length .0) 0 && eqb (row .left .0) 0)
 
 -- that, a state as the record has it, and none runs while stopped

@@ -14,13 +14,30 @@ use standing::priorities_of;
 use standing::runner_of;
 use standing::top_of;
 use standing::within;
+use units::Ticks;
 ghost use mathlib.Core.Path.{_≡_};
 ghost use mathlib.Core.Bool.{_&&_};
 ghost use Rattle.rules.specs.Page.{pageFormed, pageSound};
 ghost use Rattle.page.specs.Says.{said};
-ghost use Rattle.checks.specs.Models.{timerFits, timersFit, countsFit, knownOf, tablesFit};
+ghost use Rattle.checks.specs.Models.{ticksFit, timerFits, timersFit, countsFit, knownOf, tablesFit};
 
-// A running timer has an existing condition variable and ticks left from 1 to n, and none runs while stopped; a stopped one has 255, 0 and 0.
+// The ticks of a running timer: n from 1, and ticks left from 1 to n if it expires once, else to n + 1; a count of ticks is never above 65,535.
+fn ticks_fit(once: bool, n: Ticks, left: Ticks) -> bool
+    ensures { λ r. ⌜ r ≡ ticksFit once (n .0) (left .0) ⌝ }
+{
+    if n.0 < 1 {
+        return false;
+    }
+    if left.0 < 1 {
+        return false;
+    }
+    if once {
+        return left.0 <= n.0;
+    }
+    left.0 - 1 <= n.0
+}
+
+// A running timer has an existing condition variable and its ticks fit, and none runs while stopped; a stopped one has 255, 0 and 0.
 fn timer_fits(known: Known, row: TimerRow) -> bool
     ensures { λ r. ⌜ r ≡ timerFits known row ⌝ }
 {
@@ -28,8 +45,8 @@ fn timer_fits(known: Known, row: TimerRow) -> bool
         let blank = both(row.condition == 255, row.length.0 == 0);
         return both(blank, row.left.0 == 0);
     }
-    let counts = both(1 <= row.left.0, row.left.0 <= row.length.0);
-    let runs = both(row.condition < known.conditions, counts);
+    let ticks = ticks_fit(row.state == 1, row.length, row.left);
+    let runs = both(row.condition < known.conditions, ticks);
     both(row.state <= 2, both(runs, known.started))
 }
 

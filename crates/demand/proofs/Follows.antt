@@ -14,7 +14,7 @@ use borrow.Author.Tests.{eqb-false}
 use Rattle.laws.specs.Bools.{self}
 use Rattle.laws.specs.Lists.{getD-tabulate}
 use Rattle.units.specs.declared.Micros.{Micros}
-use Rattle.units.specs.Units.{ticksIn}
+use Rattle.units.specs.Units.{ticksIn, repeatOf}
 use Rattle.calls.specs.declared.Answer.{Answer}
 use Rattle.calls.specs.declared.Call.the-variants.{Broadcast, StartTimer, StopTimer, Tick}
 use Rattle.calls.specs.declared.Decoded.{Decoded}
@@ -36,7 +36,7 @@ use Rattle.parts.specs.Models.{blank}
 use Rattle.meaning.specs.Stands.{threadIn, threadsOf, schedulerOf}
 use Rattle.engine.specs.Stands.{engineOf}
 use Rattle.book.specs.Answers.{answersOf, finalOf}
-use Rattle.book.specs.History.{ticksTaken, NeverStops, Expires, phase, GivesTicks, Table, threads, mutexes, conditions, timers, size, idsGiven, upFrom}
+use Rattle.book.specs.History.{ticksTaken, NeverStops, Expires, repeating, GivesTicks, Table, threads, mutexes, conditions, timers, size, idsGiven, upFrom}
 use Rattle.book.proofs.Accepted.{by-answer}
 use Rattle.book.proofs.Demand.{rows-keep}
 use Rattle.book.proofs.Expiry.{tick-expires, expires-at-its-tick, expires-again}
@@ -184,13 +184,13 @@ kernel-stop-gives-what-is-left x s e d i runs rows answers y run never few q ste
     subst (λ n. GivesTicks (q .answer) (timer (s .timers) i .left - n)) (sym past)
     (stop-told (finalOf s rows) (rows-keep s e rows) y (ends .1) i _ told q steps)
 
--- and of a periodic one of length n, which has n less p left there, n less the accepted ticks since it last expired
-pub kernel-periodic-stop-gives : (x : Kernel) (s : State) → sound s ≡ true → x ≡ kernelOf s → (i n c p : ℕ) → timer (s .timers) i ≡ phase n c p → p < n
-    → (rows : List Decoded) (answers : List Answer) (y : Kernel) → Repeats x rows answers y → NeverStops i rows → (turns k : ℕ) → k < n → p + ticksTaken rows answers ≡ turns * n + k
+-- and of a periodic one that keeps n, once the ticks that are left to it there have passed, n less the accepted ticks since it last expired
+pub kernel-periodic-stop-gives : (x : Kernel) (s : State) → sound s ≡ true → x ≡ kernelOf s → (i n c left : ℕ) → timer (s .timers) i ≡ repeating n c left
+    → (rows : List Decoded) (answers : List Answer) (y : Kernel) → Repeats x rows answers y → NeverStops i rows → (turns k : ℕ) → k < n → ticksTaken rows answers ≡ left + (turns * n + k)
     → (q : Stepped) → Steps y (Taken (StopTimer i)) q → GivesTicks (q .answer) (n - k)
-kernel-periodic-stop-gives x s e d i n c p is small rows answers y run never turns k less total q steps =
+kernel-periodic-stop-gives x s e d i n c left is rows answers y run never turns k less total q steps =
     let ends = rows-step s e x d rows answers y run in
-    let told = periodic-stop-gives s e i n c p is small rows never turns k less (sym (ap (λ l. p + ticksTaken rows l) (ends .0)) ∙ total) in
+    let told = periodic-stop-gives s e i n c left is rows never turns k less (sym (ap (ticksTaken rows) (ends .0)) ∙ total) in
     stop-told (finalOf s rows) (rows-keep s e rows) y (ends .1) i _ told q steps
 
 -- an accepted tick of the kernel of a sound state
@@ -249,21 +249,21 @@ module _ (x : Kernel) (w : SoundKernel x) (i c : ℕ) (v : Micros) where
         subst (λ n. GivesTicks (q .answer) (ticksIn (v .0) - n)) (sym past)
         (stop-told (finalOf (started kind) rows) (rows-keep (started kind) start-sound rows) y (ends .1) i _ told q steps)
 
-  -- and a periodic one again n accepted ticks later, each time, and at none between
+  -- and a periodic one again its repeat later, each time, and at none between
   pub kernel-timer-expires-again : (r : Stepped) → Steps x (Taken (StartTimer i c Periodic v)) r → r .answer .number ≡ 0
       → (rows : List Decoded) (answers : List Answer) (y : Kernel) → Repeats (r .kernel) rows answers y → NeverStops i rows
-      → (turns k : ℕ) → k < ticksIn (v .0) → ticksTaken rows answers ≡ turns * ticksIn (v .0) + k
-      → (q : Stepped) → Steps y (Taken Tick) q → q .answer .number ≡ 0 → TickGives y q i c (eqb (k + 1) (ticksIn (v .0)))
+      → (turns k : ℕ) → k < repeatOf (ticksIn (v .0)) → ticksTaken rows answers ≡ ticksIn (v .0) + (turns * repeatOf (ticksIn (v .0)) + k)
+      → (q : Stepped) → Steps y (Taken Tick) q → q .answer .number ≡ 0 → TickGives y q i c (eqb (k + 1) (repeatOf (ticksIn (v .0))))
   kernel-timer-expires-again r begins taken rows answers y run never turns k less total q steps z =
       let ends = after-start Periodic r begins taken rows answers y run in
       let told = expires-again (sound-state x w .0) (sound-state x w .1) i c v (start-taken Periodic r begins taken) rows never turns k less (sym (ap (ticksTaken rows) (ends .0)) ∙ total) in
       tick-told (finalOf (started Periodic) rows) (rows-keep (started Periodic) (start-sound Periodic r begins taken) rows) y (ends .1) i c _ told q steps z
 
-  -- a stop of it gives n less the accepted ticks since it last expired
+  -- a stop of it gives its repeat less the accepted ticks since it last expired
   pub kernel-stop-gives-since-last-expiry : (r : Stepped) → Steps x (Taken (StartTimer i c Periodic v)) r → r .answer .number ≡ 0
       → (rows : List Decoded) (answers : List Answer) (y : Kernel) → Repeats (r .kernel) rows answers y → NeverStops i rows
-      → (turns k : ℕ) → k < ticksIn (v .0) → ticksTaken rows answers ≡ turns * ticksIn (v .0) + k
-      → (q : Stepped) → Steps y (Taken (StopTimer i)) q → GivesTicks (q .answer) (ticksIn (v .0) - k)
+      → (turns k : ℕ) → k < repeatOf (ticksIn (v .0)) → ticksTaken rows answers ≡ ticksIn (v .0) + (turns * repeatOf (ticksIn (v .0)) + k)
+      → (q : Stepped) → Steps y (Taken (StopTimer i)) q → GivesTicks (q .answer) (repeatOf (ticksIn (v .0)) - k)
   kernel-stop-gives-since-last-expiry r begins taken rows answers y run never turns k less total q steps =
       let ends = after-start Periodic r begins taken rows answers y run in
       let told = stop-gives-since-last-expiry (sound-state x w .0) (sound-state x w .1) i c v (start-taken Periodic r begins taken) rows never turns k less (sym (ap (ticksTaken rows) (ends .0)) ∙ total) in

@@ -14,7 +14,7 @@ use Rattle.laws.specs.Bools.{nor-left, and-right, and-both, cond-true, cond-fal
 use Rattle.laws.specs.Lists.{by-below, tabulate, getD-tabulate, length-tabulate, set-tabulate}
 use Rattle.units.specs.declared.Micros.{Micros}
 use Rattle.units.specs.declared.Length.the-variants.{Whole, OutOfRange}
-use Rattle.units.specs.Units.{ticksIn, outside, inTicks, lengthOf}
+use Rattle.units.specs.Units.{ticksIn, tooLong, inTicks, lengthOf}
 use Rattle.calls.specs.declared.Call.the-variants.{StartTimer, StopTimer}
 use Rattle.calls.specs.declared.Kind.{Kind}
 use Rattle.calls.specs.declared.Kind.the-variants.{OneShot, Periodic}
@@ -24,7 +24,7 @@ use Rattle.wheel.specs.Hung.{Good, left, withLeft}
 use Rattle.wheel.specs.Promise.{wheelOf, startedIn}
 use Rattle.wheel.proofs.Promise.{start-hangs, stop-hangs, left-hung}
 use Rattle.rules.specs.State.{stopped, Timer, Rows, State, stoppedTimer, timer}
-use Rattle.rules.specs.Effects.{stateOf, goes, effect, given}
+use Rattle.rules.specs.Effects.{stateOf, lengthKept, startedTimer, goes, effect, given}
 use Rattle.rules.specs.Refusals.{tests, verdictOf}
 use Rattle.rules.specs.Sound.{timerSound, timersSound}
 use Rattle.rules.specs.Page.{timerCode}
@@ -50,7 +50,7 @@ pub left-short : (k : Rows) (x : Timer) → timerSound k x ≡ true → x .left 
 left-short k x e = go (goes (x .state)) refl
   where
     go : (b : Bool) → goes (x .state) ≡ b → x .left < 65536
-    go true q = let g = going-timer k x q e in omega (arith, g .most, g .fits)
+    go true q = let g = going-timer k x q e in omega (arith, g .short)
     go false q = omega (arith, stopped-left k x e q)
 
 -- the wheel of a sound table is good
@@ -107,13 +107,13 @@ module _ {s : State} (o : Sound s) where
     n = ticksIn (v .0)
 
     abbrev new : Timer
-    new = record { state = stateOf kind; condition = c; length = ticksIn (v .0); left = ticksIn (v .0) }
+    new = startedTimer c kind (ticksIn (v .0))
 
     there : i < length (s .timers)
     unfolding tests
     there = leb-false (length (s .timers)) i (nor-left (leb (length (s .timers)) i) (leb (length (k .ties)) c) (passed s (StartTimer i c kind v) z .1 .0))
 
-    in-range : outside 1 65535 (ticksIn (v .0)) ≡ false
+    in-range : tooLong (ticksIn (v .0)) ≡ false
     unfolding tests
     in-range = passed s (StartTimer i c kind v) z .1 .1 .0
 
@@ -122,10 +122,10 @@ module _ {s : State} (o : Sound s) where
     was-stopped = passed s (StartTimer i c kind v) z .1 .1 .1 .0
 
     length-so : lengthOf v ≡ Whole (inTicks (ticksIn (v .0)))
-    length-so = cond-false (outside 1 65535 (ticksIn (v .0))) OutOfRange (Whole (inTicks (ticksIn (v .0)))) in-range
+    length-so = cond-false (tooLong (ticksIn (v .0))) OutOfRange (Whole (inTicks (ticksIn (v .0)))) in-range
 
     some : 0 < ticksIn (v .0)
-    some = ltb-false (ticksIn (v .0)) 1 (nor-left (ltb (ticksIn (v .0)) 1) (ltb 65535 (ticksIn (v .0))) in-range)
+    some = omega arith
 
     wheel-so : startedIn (wheelOf (hungOf (s .count) (s .timers))) i (ticksIn (v .0)) ≡ wheelOf (hungOf (s .count) (set (s .timers) i new))
     wheel-so = start-turns k (s .count) (s .timers) i (ticksIn (v .0)) (o .timers) (omega (arith, there, o .few-timers)) (stopped-left k (timer (s .timers) i) (timer-at k (s .timers) (o .timers) i) was-stopped) some
@@ -134,7 +134,7 @@ module _ {s : State} (o : Sound s) where
     start-timer-effect : timerStarted (engineOf s) i c kind (lengthOf v) ≡ engineOf (effect s (StartTimer i c kind v))
     start-timer-effect = ap (timerStarted (engineOf s) i c kind) length-so ∙ (unfold effect engineOf in (λ j. record {
       scheduler = engineOf s .scheduler;
-      timers = (ap (λ a. set (tabulate 32 (timerIn (s .timers))) (i % 32) (record { state = a; condition = c; length = inTicks (ticksIn (v .0)) })) (kind-code kind) ∙ timer-rows (s .timers) i new there (o .few-timers)) j;
+      timers = (ap (λ a. set (tabulate 32 (timerIn (s .timers))) (i % 32) (record { state = a; condition = c; length = inTicks (lengthKept kind (ticksIn (v .0))) })) (kind-code kind) ∙ timer-rows (s .timers) i new there (o .few-timers)) j;
       wheel = wheel-so j;
       started = k .started;
       threads = length (k .threads);

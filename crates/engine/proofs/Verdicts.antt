@@ -13,7 +13,7 @@ use borrow.Author.Tests.{ne-eqb, leb-false, not-false}
 use Rattle.laws.specs.Bools.{nor-left, nor-right}
 use Rattle.laws.specs.Lists.{tabulate, getD-tabulate}
 use Rattle.units.specs.declared.Micros.{Micros}
-use Rattle.units.specs.Units.{ticksIn, outside, lengthOf}
+use Rattle.units.specs.Units.{ticksIn, tooLong, lengthOf}
 use Rattle.calls.specs.declared.Call.the-variants.{Start, CreateThread, CreateMutex, CreateCondition, CreateTimer, Acquire, Release, Wait, Signal, Broadcast, StartTimer, StopTimer}
 use Rattle.calls.specs.declared.Kind.{Kind}
 use Rattle.calls.specs.declared.Verdict.{Verdict}
@@ -196,7 +196,7 @@ module _ {s : State} (o : Sound s) where
       later (leb (length (s .timers)) i || leb (length (k .ties)) c) NoSuchId (delay (not (eqb (timerOf (engineOf s) i .state) 0))) (delay (goes (timer (s .timers) i .state))) (λ l. ap (λ b. verdict (delay b)) (state-of (nor-left (leb (length (s .timers)) i) (leb (length (k .ties)) c) l))))))
     where
       delay : Bool → List Test
-      delay b = (outside 1 65535 (ticksIn (v .0)) ⇒ OutOfRange) ∷ (b ⇒ TimerRunning) ∷ []
+      delay b = (tooLong (ticksIn (v .0)) ⇒ OutOfRange) ∷ (b ⇒ TimerRunning) ∷ []
 
       ids : Bool → List Test
       ids b = (leb (length (s .timers)) i || leb (length (k .ties)) c ⇒ NoSuchId) ∷ delay b

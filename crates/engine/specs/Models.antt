@@ -24,6 +24,7 @@ use Rattle.calls.specs.declared.Kind.the-variants.{OneShot, Periodic}
 use Rattle.calls.specs.declared.Verdict.{Verdict}
 use Rattle.calls.specs.declared.Verdict.the-variants.{Stopped}
 use Rattle.calls.specs.Answers.{numberOf}
+use Rattle.rules.specs.Effects.{lengthKept}
 use Rattle.verdicts.specs.Models.{createdVerdict, roomVerdict, startVerdict, acquireVerdict, releaseVerdict, heldVerdict, idsVerdict, idVerdict, delayVerdict, stopVerdict, firstOf, ownedIn}
 use Rattle.engine.specs.declared.Timer.{Timer}
 use Rattle.engine.specs.declared.Engine.{Engine}
@@ -159,10 +160,10 @@ broadcastModel x c =
     let g = scheduler.broadcastModel 32 0 (x .scheduler) c in
     judged (idVerdict (x .started) (x .conditions) c) x (withScheduler x (g .scheduler)) (g .left)
 
--- the engine with timer id started for condition variable c with this length; out of range nothing changes
+-- the engine with timer id started for condition variable c: it comes due first after this length, and its row keeps n; out of range nothing changes
 abbrev pub timerStarted : Engine → ℕ → ℕ → Kind → Length → Engine
 timerStarted x id c kind OutOfRange = x
-timerStarted x id c kind (Whole n) = withTimer x id (record { state = kindCode kind; condition = c; length = n }) (startedIn (x .wheel) id (n .0))
+timerStarted x id c kind (Whole n) = withTimer x id (record { state = kindCode kind; condition = c; length = inTicks (lengthKept kind (n .0)) }) (startedIn (x .wheel) id (n .0))
 
 -- start timer id for condition variable c
 unfoldable pub startTimerModel : Engine → ℕ → ℕ → Kind → Micros → Stepped

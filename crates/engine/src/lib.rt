@@ -16,6 +16,7 @@ use units::Length;
 use units::Micros;
 use units::Ticks;
 use units::count_of;
+use units::repeat_of;
 use units::ticks_of;
 use verdicts::acquire_verdict;
 use verdicts::created_verdict;
@@ -35,7 +36,9 @@ ghost use mathlib.Core.Path.{_≡_};
 ghost use mathlib.Core.Bool.{true};
 ghost use Rattle.calls.specs.declared.Decoded.the-variants.{WrongForm};
 ghost use Rattle.calls.specs.declared.Verdict.the-variants.{WrongRow};
+ghost use Rattle.units.specs.Units.{inTicks};
 ghost use Rattle.rules.specs.State.{State, boot};
+ghost use Rattle.rules.specs.Effects.{lengthKept};
 ghost use Rattle.rules.specs.Sound.{sound};
 ghost use Rattle.rules.specs.Step.{step, stepDecoded};
 ghost use Rattle.engine.specs.Stands.{engineOf, steppedOf};
@@ -81,6 +84,16 @@ pub fn state_of(kind: Kind) -> u8
     match kind {
         Kind::OneShot => 1,
         Kind::Periodic => 2,
+    }
+}
+
+// The n that a timer's row keeps, where its first expiry comes after n: a periodic one's is the repeat.
+pub fn length_kept(kind: Kind, n: Ticks) -> Ticks
+    ensures { λ r. ⌜ r ≡ inTicks (lengthKept kind (n .0)) ⌝ }
+{
+    match kind {
+        Kind::OneShot => n,
+        Kind::Periodic => repeat_of(n),
     }
 }
 
@@ -367,7 +380,7 @@ impl Engine {
         let i = (id % 32) as usize;
         let row = self.timers[i];
         let ids = ids_verdict(self.started, self.clocks, id, self.conditions, c);
-        let Length::Whole(length) = ticks_of(v) else {
+        let Length::Whole(first) = ticks_of(v) else {
             let refusal = first_of(ids, Verdict::OutOfRange);
             return self.refused(refusal);
         };
@@ -378,13 +391,14 @@ impl Engine {
             return self.refused(verdict);
         }
         let state = state_of(kind);
+        let length = length_kept(kind, first);
         self.timers[i] = Timer {
             state,
             condition: c,
             length,
         };
         let wheel = self.wheel;
-        let after = wheel.start(id, length);
+        let after = wheel.start(id, first);
         self.wheel = after;
         self.answered(255, false)
     }

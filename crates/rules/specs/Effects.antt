@@ -5,7 +5,7 @@ use mathlib.Core.Bool.{Bool, true, false, cond, _&&_}
 use mathlib.Core.List.{List, [], _∷_, _++_, map}
 use lib.ListN.{set, length}
 use lib.Dec.{eqb, ltb}
-use Rattle.units.specs.Units.{ticksIn}
+use Rattle.units.specs.Units.{ticksIn, repeatOf}
 use Rattle.calls.specs.declared.Call.{Call}
 use Rattle.calls.specs.declared.Call.the-variants.{Start, CreateThread, CreateMutex, CreateCondition, CreateTimer, Acquire, Release, Wait, Signal, Broadcast, StartTimer, StopTimer, Tick}
 use Rattle.calls.specs.declared.Kind.{Kind}
@@ -111,6 +111,15 @@ abbrev pub stateOf : Kind → TimerState
 stateOf OneShot = oneShot
 stateOf Periodic = periodic
 
+-- the n that a timer's row keeps, where its first expiry comes after n ticks: a periodic one's is the repeat (document 02, L5)
+abbrev pub lengthKept : Kind → ℕ → ℕ
+lengthKept OneShot n = n
+lengthKept Periodic n = repeatOf n
+
+-- a timer of this kind as it is started with condition variable c
+abbrev pub startedTimer : ℕ → Kind → ℕ → Timer
+startedTimer c kind n = record { state = stateOf kind; condition = c; length = lengthKept kind n; left = n }
+
 -- whether a timer of this state runs
 abbrev pub goes : TimerState → Bool
 goes stopped = false
@@ -167,9 +176,7 @@ effect s (Release m) = withScheduler s (released (s .scheduler) m)
 effect s (Wait c m) = withScheduler s (waited (s .scheduler) c m)
 effect s (Signal c) = withScheduler s (signalled (s .scheduler) c)
 effect s (Broadcast c) = withScheduler s (signalledTimes 32 (s .scheduler) c)
-effect s (StartTimer i c kind v) =
-    let n = ticksIn (v .0) in
-    withTimers s (set (s .timers) i (record { state = stateOf kind; condition = c; length = n; left = n }))
+effect s (StartTimer i c kind v) = withTimers s (set (s .timers) i (startedTimer c kind (ticksIn (v .0))))
 effect s (StopTimer i) = withTimers s (set (s .timers) i stoppedTimer)
 effect s Tick = record {
   scheduler = signalledEach (s .scheduler) (dueConditions (s .timers));

@@ -1,11 +1,13 @@
--- Document 01's marked examples of the calls, E2, E3 and E5 to E12, as one table: what the definitions show, and what the document says is seen.
+-- Document 01's marked examples of the calls, E2, E3 and E5 to E12, as one table: what the definitions show, and what the document says is seen. E3 has
+-- the numbers of document 02, L5, and n = 1 is 0 microseconds by them.
 -- The crate examples has the whole table, with those of the record and of the wheel.
 -- Assumes nothing.
 use Prim.Native.Nat.{ℕ, zero, suc}
 use mathlib.Core.List.{List, [], _∷_, _++_}
 use Rattle.calls.specs.declared.Call.{Call}
 use Rattle.calls.specs.declared.Call.the-variants.{Start, CreateThread, CreateMutex, CreateCondition, CreateTimer, Acquire, Release, Wait, Signal, StartTimer, Tick}
-use Rattle.calls.specs.declared.Kind.the-variants.{OneShot}
+use Rattle.calls.specs.declared.Kind.{Kind}
+use Rattle.calls.specs.declared.Kind.the-variants.{OneShot, Periodic}
 use Rattle.rules.specs.Queues.{queue}
 use Rattle.rules.specs.State.{State, mutex, timer, priority, boot}
 use Rattle.rules.specs.Step.{Stepped, step, runner}
@@ -38,9 +40,9 @@ runnerAndQueue p r = runner (r .state) ∷ queue (r .state .scheduler .sets .rea
 unfoldable pub priorityOf1 : Stepped → List ℕ
 priorityOf1 r = priority (r .state .scheduler .rows) 1 ∷ []
 
--- the length of timer 0, then the answer
-unfoldable pub lengthAndAnswer : Stepped → List ℕ
-lengthAndAnswer r = timer (r .state .timers) 0 .length ∷ answer r
+-- the n that timer 0 keeps and its ticks left, then the answer
+unfoldable pub timerAndAnswer : Stepped → List ℕ
+timerAndAnswer r = timer (r .state .timers) 0 .length ∷ timer (r .state .timers) 0 .left ∷ answer r
 
 -- the count of mutex 0, then the answer
 unfoldable pub countAndAnswer : Stepped → List ℕ
@@ -56,9 +58,9 @@ tickCountAndAnswer r = r .state .count ∷ answer r
 unfoldable pub alone : ℕ → List Call
 alone b = CreateThread b ∷ CreateMutex 5 ∷ CreateMutex 9 ∷ CreateCondition ∷ CreateTimer ∷ Start ∷ []
 
--- a one-shot timer is started with v microseconds
-unfoldable pub startOf : ℕ → Call
-startOf v = StartTimer 0 0 OneShot (record { 0 = v })
+-- thread 1 starts timer 0 with v microseconds
+unfoldable pub setFor : Kind → ℕ → List Call
+setFor kind v = alone 3 ++ (StartTimer 0 0 kind (record { 0 = v }) ∷ [])
 
 -- thread 1 runs and two others are ready behind it, all of base 4
 unfoldable pub three : List Call
@@ -84,14 +86,22 @@ unfoldable pub table : List Example
 table =
     -- E2 start at boot
     record { shown = answer (from boot (Start ∷ [])); seen = 0 ∷ 255 ∷ 0 ∷ [] }
-    -- E3 999, 1,000, 65,535,999 and 65,536,000 microseconds
-    ∷ record { shown = answer (from boot (alone 3 ++ (startOf 999 ∷ []))); seen = 6 ∷ 255 ∷ 1 ∷ [] }
-    ∷ record { shown = lengthAndAnswer (from boot (alone 3 ++ (startOf 1000 ∷ []))); seen = 1 ∷ 0 ∷ 255 ∷ 1 ∷ [] }
-    ∷ record { shown = lengthAndAnswer (from boot (alone 3 ++ (startOf 65535999 ∷ []))); seen = 65535 ∷ 0 ∷ 255 ∷ 1 ∷ [] }
-    ∷ record { shown = answer (from boot (alone 3 ++ (startOf 65536000 ∷ []))); seen = 6 ∷ 255 ∷ 1 ∷ [] }
+    -- E3 0, 1, 1,000, 1,999, 65,534,000 and 65,534,001 microseconds
+    ∷ record { shown = timerAndAnswer (from boot (setFor OneShot 0)); seen = 1 ∷ 1 ∷ 0 ∷ 255 ∷ 1 ∷ [] }
+    ∷ record { shown = timerAndAnswer (from boot (setFor OneShot 1)); seen = 2 ∷ 2 ∷ 0 ∷ 255 ∷ 1 ∷ [] }
+    ∷ record { shown = timerAndAnswer (from boot (setFor OneShot 1000)); seen = 2 ∷ 2 ∷ 0 ∷ 255 ∷ 1 ∷ [] }
+    ∷ record { shown = timerAndAnswer (from boot (setFor OneShot 1999)); seen = 3 ∷ 3 ∷ 0 ∷ 255 ∷ 1 ∷ [] }
+    ∷ record { shown = timerAndAnswer (from boot (setFor OneShot 65534000)); seen = 65535 ∷ 65535 ∷ 0 ∷ 255 ∷ 1 ∷ [] }
+    ∷ record { shown = answer (from boot (setFor OneShot 65534001)); seen = 6 ∷ 255 ∷ 1 ∷ [] }
+    -- and of periodic timers, whose rows keep the repeat
+    ∷ record { shown = timerAndAnswer (from boot (setFor Periodic 0)); seen = 1 ∷ 1 ∷ 0 ∷ 255 ∷ 1 ∷ [] }
+    ∷ record { shown = timerAndAnswer (from boot (setFor Periodic 1)); seen = 1 ∷ 2 ∷ 0 ∷ 255 ∷ 1 ∷ [] }
+    ∷ record { shown = timerAndAnswer (from boot (setFor Periodic 1999)); seen = 2 ∷ 3 ∷ 0 ∷ 255 ∷ 1 ∷ [] }
+    ∷ record { shown = timerAndAnswer (from boot (setFor Periodic 65534000)); seen = 65534 ∷ 65535 ∷ 0 ∷ 255 ∷ 1 ∷ [] }
+    ∷ record { shown = answer (from boot (setFor Periodic 4294967295)); seen = 6 ∷ 255 ∷ 1 ∷ [] }
     -- E5 count 4,294,967,295, n = 1: the next tick makes 0 and expires it
     ∷ record {
-      shown = tickCountAndAnswer (from (atCount 4294967295 (from boot (alone 3 ++ (startOf 1000 ∷ [])) .state)) (Tick ∷ []));
+      shown = tickCountAndAnswer (from (atCount 4294967295 (from boot (setFor OneShot 0) .state)) (Tick ∷ []));
       seen = 0 ∷ 0 ∷ 1 ∷ 1 ∷ [];
     }
     -- E6 base 3 takes ceiling 5, then 9; the 5 released first; then the 9 released

@@ -5,5 +5,6 @@ pub mod Effects
 pub mod Refusals
 pub mod Sound
 pub mod Page
+pub mod Earlier
 pub mod Step
 pub mod Examples

@@ -6,7 +6,7 @@ use mathlib.Core.Bool.{Bool, true, cond, not, _||_, _&&_}
 use mathlib.Core.List.{List, [], _∷_}
 use lib.ListN.{length}
 use lib.Dec.{eqb, ltb, leb}
-use Rattle.units.specs.Units.{ticksIn, outside}
+use Rattle.units.specs.Units.{ticksIn, tooLong, outside}
 use Rattle.calls.specs.declared.Call.{Call}
 use Rattle.calls.specs.declared.Call.the-variants.{Start, CreateThread, CreateMutex, CreateCondition, CreateTimer, Acquire, Release, Wait, Signal, Broadcast, StartTimer, StopTimer, Tick}
 use Rattle.calls.specs.declared.Verdict.{Verdict}
@@ -73,7 +73,7 @@ tests k ts (Broadcast c) = (not (k .started) ⇒ Stopped) ∷ (noConditionAt k c
 tests k ts (StartTimer i c kind v) =
     (not (k .started) ⇒ Stopped)
     ∷ (noTimerAt ts i || noConditionAt k c ⇒ NoSuchId)
-    ∷ (outside 1 65535 (ticksIn (v .0)) ⇒ OutOfRange)
+    ∷ (tooLong (ticksIn (v .0)) ⇒ OutOfRange)
     ∷ (goes (timer ts i .state) ⇒ TimerRunning) ∷ []
 tests k ts (StopTimer i) =
     (not (k .started) ⇒ Stopped) ∷ (noTimerAt ts i ⇒ NoSuchId) ∷ (not (goes (timer ts i .state)) ⇒ TimerStopped) ∷ []

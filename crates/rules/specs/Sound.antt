@@ -1,14 +1,14 @@
 -- When a state is sound: document 01's limits, then its clauses from "Otherwise sound means", in its order, as one test that computes.
 -- In place of the places in a queue a state has the queues themselves: each holds exactly the threads that stand there with its priority, each once.
 -- Assumes nothing.
-use Prim.Native.Nat.{ℕ, zero, suc}
+use Prim.Native.Nat.{ℕ, zero, suc, _+_}
 use mathlib.Core.Bool.{Bool, true, false, cond, not, _||_, _&&_}
 use mathlib.Core.List.{List, [], _∷_}
 use lib.ListN.{length}
 use lib.Dec.{eqb, ltb, leb}
 use Rattle.units.specs.Units.{outside}
 use Rattle.rules.specs.Queues.{QueueSet, queue}
-use Rattle.rules.specs.State.{Where, running, ready, forMutex, onCondition, waits, Timer, Rows, Sets, State, thread, mutex, tied, at, priority, owned, setAt}
+use Rattle.rules.specs.State.{Where, running, ready, forMutex, onCondition, waits, TimerState, stopped, oneShot, periodic, Timer, Rows, Sets, State, thread, mutex, tied, at, priority, owned, setAt}
 use Rattle.rules.specs.Effects.{goes}
 
 -- ---- tests over lists and numbers
@@ -116,10 +116,17 @@ conditionSound k c =
 abbrev pub conditionsSound : Rows → Bool
 conditionsSound k = each (length (k .ties)) (conditionSound k)
 
--- a running timer has an existing condition variable and ticks left from 1 to n, a stopped one 255, 0 and 0
+-- the most ticks that a running timer with this n has left: n, or n + 1 for a periodic one, which has them until its first expiry (document 02, L5)
+abbrev pub mostLeft : TimerState → ℕ → ℕ
+mostLeft stopped n = 0
+mostLeft oneShot n = n
+mostLeft periodic n = n + 1
+
+-- a running timer has an existing condition variable, n from 1 to 65,535 and ticks left from 1 to that most, at most 65,535; a stopped one 255, 0 and 0
 abbrev pub timerSound : Rows → Timer → Bool
 timerSound k x =
-    cond (goes (x .state)) (ltb (x .condition) (length (k .ties)) && leb 1 (x .left) && leb (x .left) (x .length) && leb (x .length) 65535)
+    cond (goes (x .state))
+    (ltb (x .condition) (length (k .ties)) && not (outside 1 65535 (x .length)) && not (outside 1 65535 (x .left)) && leb (x .left) (mostLeft (x .state) (x .length)))
     (eqb (x .condition) 255 && eqb (x .length) 0 && eqb (x .left) 0)
 
 -- a test of each timer

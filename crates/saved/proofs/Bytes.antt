@@ -1,7 +1,7 @@
 -- The record of a sound state is a list of bytes: each of its numbers fits the bytes that the document gives it.
 -- Assumes nothing.
 use Prim.Native.Nat.{ℕ, zero, suc, _/_, _%_, _<_, _≤_}
-use mathlib.Core.Path.{_≡_, sym, ap, subst}
+use mathlib.Core.Path.{_≡_, refl, sym, ap, subst}
 use mathlib.Core.Bool.{Bool, true, false, cond, _&&_}
 use mathlib.Core.List.{List, [], _∷_, _++_, map, flatten}
 use native.Mathlib.Omega.{arith}
@@ -11,10 +11,12 @@ use borrow.Author.Tests.{eqb-true, ltb-true, leb-true}
 use Rattle.laws.specs.Bools.{by-cases, and-left, and-right}
 use Rattle.laws.specs.Lists.{by-equal, tabulate, length-tabulate, getD-tabulate}
 use Rattle.rules.specs.State.{Where, running, ready, forMutex, onCondition, TimerState, stopped, oneShot, periodic, Timer, Rows, State, noMutex, thread, mutex, tied, at}
+use Rattle.rules.specs.Effects.{goes}
 use Rattle.rules.specs.Sound.{all, each, exists, anyone, conditionSound, timerSound, timersSound, clauses, queueClauses, sound}
 use Rattle.rules.specs.Page.{ThreadRow, Page, noRow, threadRow, timerOf, rowsOf, howMany, together, objectSound, placeSound, eachRow, pageSound, stateCode, objectCode, timerCode, placeAt, rowAt, timerRowOf, pageOf}
 use Rattle.soundness.proofs.Tests.{AllTrue, all-true, each-at}
 use Rattle.soundness.proofs.Facts.{Sound}
+use Rattle.soundness.proofs.Timers.{going-timer}
 use Rattle.soundness.proofs.Tested.{sound-facts}
 use Rattle.pages.proofs.Places.{test-placed}
 use Rattle.pages.proofs.Pages.{page-of-sound}
@@ -109,14 +111,10 @@ module _ (k : Rows) (few : length (k .ties) ≤ 16) (c n r : ℕ) where
       (both (code ∷ c ∷ word n) (word r) (one-more code (c ∷ word n) a (one-more c (word n) b (of-word n d))) (of-word r f)) (of-word 0 (omega arith))
 
   -- if it runs
-  running-fits : (ltb c (length (k .ties)) && leb 1 r && leb r n && leb n 65535) ≡ true → (c < 256) × (n < 65536) × (r < 65536)
-  running-fits e =
-      let three = and-left (ltb c (length (k .ties)) && leb 1 r && leb r n) (leb n 65535) e in
-      let two = and-left (ltb c (length (k .ties)) && leb 1 r) (leb r n) three in
-      let low = ltb-true c (length (k .ties)) (and-left (ltb c (length (k .ties))) (leb 1 r) two) in
-      let top = leb-true n 65535 (and-right (ltb c (length (k .ties)) && leb 1 r && leb r n) (leb n 65535) e) in
-      let mid = leb-true r n (and-right (ltb c (length (k .ties)) && leb 1 r) (leb r n) three) in
-      (omega (arith, low), omega (arith, top), omega (arith, top, mid))
+  running-written : (q : TimerState) → goes q ≡ true → (code : ℕ) → code < 256 → timerSound k (record { state = q; condition = c; length = n; left = r }) ≡ true → AreBytes (code ∷ c ∷ word n ++ word r ++ word 0)
+  running-written q runs code a e =
+      let g = going-timer k (record { state = q; condition = c; length = n; left = r }) runs e in
+      timer-written code a (omega (arith, g .exists)) (omega (arith, g .fits)) (omega (arith, g .short))
 
   -- in any state, where it is sound
   timer-bytes : (q : TimerState) → timerSound k (record { state = q; condition = c; length = n; left = r }) ≡ true → AreBytes (timerBytes (record { state = timerCode q; condition = c; length = n; left = r }))
@@ -125,8 +123,8 @@ module _ (k : Rows) (few : length (k .ties) ≤ 16) (c n r : ℕ) where
       let two = and-left (eqb c 255 && eqb n 0) (eqb r 0) e in
       timer-written 0 (omega arith) (omega (arith, eqb-true c 255 (and-left (eqb c 255) (eqb n 0) two)))
       (omega (arith, eqb-true n 0 (and-right (eqb c 255) (eqb n 0) two))) (omega (arith, eqb-true r 0 (and-right (eqb c 255 && eqb n 0) (eqb r 0) e)))
-  timer-bytes oneShot e = let w = running-fits e in timer-written 1 (omega arith) (w .0) (w .1) (w .2)
-  timer-bytes periodic e = let w = running-fits e in timer-written 2 (omega arith) (w .0) (w .1) (w .2)
+  timer-bytes oneShot e = running-written oneShot refl 1 (omega arith) e
+  timer-bytes periodic e = running-written periodic refl 2 (omega arith) e
 
 -- all timers
 timers-bytes : (k : Rows) (xs : List Timer) → length (k .ties) ≤ 16 → timersSound k xs ≡ true → AreBytes (flatten (map timerBytes (map timerRowOf xs)))

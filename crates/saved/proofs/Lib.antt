@@ -5,3 +5,4 @@ pub mod Writing
 pub mod Loading
 pub mod Bytes
 pub mod Demand
+pub mod Earlier

@@ -17,7 +17,7 @@ use Rattle.calls.specs.declared.Kind.the-variants.{OneShot, Periodic}
 use Rattle.calls.specs.Answers.{numberOf}
 use Rattle.rules.specs.State.{running, ready, same, Thread, Timer, Rows, Scheduler, State, stoppedTimer, thread, mutex, tied, at, priority, owned, withStarted, stand, arrive}
 use Rattle.rules.specs.Next.{runFirst, chooseNext}
-use Rattle.rules.specs.Effects.{threadCreated, mutexCreated, conditionCreated, acquired, released, waited, signalled, signalledTimes, signalledEach, stateOf, goes, ticked, dueConditions, nextCount, withScheduler, withTimers, effect}
+use Rattle.rules.specs.Effects.{threadCreated, mutexCreated, conditionCreated, acquired, released, waited, signalled, signalledTimes, signalledEach, stateOf, startedTimer, goes, ticked, dueConditions, nextCount, withScheduler, withTimers, effect}
 use Rattle.rules.specs.Refusals.{Test, verdict, tests, verdictOf}
 use Rattle.rules.specs.Sound.{timersSound}
 use Rattle.rules.specs.Step.{isTick, after, stepSound}
@@ -26,7 +26,7 @@ use Rattle.soundness.proofs.Facts.{Rests, Sound}
 use Rattle.soundness.proofs.Next.{Kept, Turned, Chosen, facts-handed, queued-handed, first-runs, next-chosen}
 use Rattle.soundness.proofs.Calls.{Going, turned-going, Left, left-turned, left-released, left-acquired, left-waited, left-signalled, left-times, left-each}
 use Rattle.soundness.proofs.Creating.{length-more, withThread, kept-thread, kept-mutex, kept-condition, going-thread, old-thread, same-owner}
-use Rattle.soundness.proofs.Timers.{timer-going, timers-more, timers-set, timers-created, timers-ticked, due-below, none-goes-created}
+use Rattle.soundness.proofs.Timers.{started-goes, timer-going, timers-more, timers-set, timers-created, timers-ticked, due-below, none-goes-created}
 
 -- ---- an accepted call passed all its tests
 
@@ -294,9 +294,8 @@ module _ {s : State} (o : Sound s) where
         (ltb-false 1 (owned (k .mutexes) caller) (nor-right (ltb 1 (mutex k m .count)) (ltb 1 (owned (k .mutexes) caller)) (c .1 .1 .1 .1 .0)))
         (λ n. eqb-true (tied k d) m (not-false (eqb (tied k d) m) (second-fails (not (eqb (tied k d) 255)) (not (eqb (tied k d) m)) (c .1 .1 .1 .1 .1 .0) (rw (ne-eqb (tied k d) 255 n)))))
 
-    starts-timer : (i d n : ℕ) (kind : Kind) → d < length (k .ties) → 1 ≤ n → n ≤ 65535 → timersSound k (set (s .timers) i (record { state = stateOf kind; condition = d; length = n; left = n })) ≡ true
-    starts-timer i d n kind there some most = timers-set k (s .timers) i (record { state = stateOf kind; condition = d; length = n; left = n }) (o .timers)
-        (timer-going k (record { state = stateOf kind; condition = d; length = n; left = n }) (goes-kind kind) (record { exists = there; some = some; most = omega arith; fits = most }))
+    starts-timer : (i d n : ℕ) (kind : Kind) → d < length (k .ties) → 1 ≤ n → n ≤ 65535 → timersSound k (set (s .timers) i (startedTimer d kind n)) ≡ true
+    starts-timer i d n kind there some most = timers-set k (s .timers) i (startedTimer d kind n) (o .timers) (timer-going k (startedTimer d kind n) (goes-kind kind) (started-goes (length (k .ties)) d n kind there some most))
 
     ticking : Effect (effect s Tick)
     unfolding effect
@@ -350,9 +349,9 @@ module _ {s : State} (o : Sound s) where
   effected (Wait d m) c e = scheduled o (on (c .0)) (waited (s .scheduler) d m) (waiting (c .0) d m c)
   effected (Signal d) c e = scheduled o (on (c .0)) (signalled (s .scheduler) d) (left-turned (left-signalled (kept o) (going o (on (c .0))) d (leb-false (length (k .ties)) d (c .1 .0))))
   effected (Broadcast d) c e = scheduled o (on (c .0)) (signalledTimes 32 (s .scheduler) d) (left-turned (left-times 32 (kept o) (going o (on (c .0))) d (leb-false (length (k .ties)) d (c .1 .0))))
-  effected (StartTimer i d kind v) c e = timed o (on (c .0)) (set (s .timers) i (record { state = stateOf kind; condition = d; length = ticksIn (v .0); left = ticksIn (v .0) })) (rw (length-set (s .timers) i) (o .few-timers))
+  effected (StartTimer i d kind v) c e = timed o (on (c .0)) (set (s .timers) i (startedTimer d kind (ticksIn (v .0)))) (rw (length-set (s .timers) i) (o .few-timers))
       (starts-timer (c .0) i d (ticksIn (v .0)) kind (leb-false (length (k .ties)) d (nor-right (leb (length (s .timers)) i) (leb (length (k .ties)) d) (c .1 .0)))
-      (within 1 65535 (ticksIn (v .0)) (c .1 .1 .0) .0) (within 1 65535 (ticksIn (v .0)) (c .1 .1 .0) .1))
+      (omega arith) (ltb-false 65535 (ticksIn (v .0)) (c .1 .1 .0)))
   effected (StopTimer i) c e = timed o (on (c .0)) (set (s .timers) i stoppedTimer) (rw (length-set (s .timers) i stoppedTimer) (o .few-timers)) (timers-set k (s .timers) i stoppedTimer (o .timers) refl)
   effected Tick c e = ticking (c .0)
 

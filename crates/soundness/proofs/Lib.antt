@@ -13,3 +13,4 @@ pub mod Tested
 pub mod Kept
 pub mod Choice
 pub mod Sizes
+pub mod Earlier

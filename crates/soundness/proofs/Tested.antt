@@ -12,20 +12,12 @@ use Rattle.laws.specs.Bools.{by-cases, no-way, refuted, self, nor-left, nor-rig
 use Rattle.units.specs.Units.{outside}
 use Rattle.rules.specs.State.{Where, running, ready, forMutex, onCondition, same, waits, Thread, Mutex, Timer, Rows, Sets, State, noThread, noMutex, thread, mutex, tied, at, priority, owned, setAt}
 use Rattle.rules.specs.Sound.{all, each, implies, limits, basesSound, ceilingsSound, idleSound, runnerSound, noneAbove, exists, objectsSound, anyone, ownerSound, waiterSound, mutexesSound, conditionSound, conditionsSound, rest, clauses, holds, queueClauses, sound}
-use Rattle.soundness.proofs.Tests.{AllTrue, all-true, true-all, implied, implying, each-at, at-each}
+use Rattle.soundness.proofs.Tests.{AllTrue, all-true, true-all, implied, implying, inside, to-inside, each-at, at-each}
 use Rattle.soundness.proofs.Rows.{same-self, same-true, Real, not-running, standing-exists, owned-none, none-owned}
 use Rattle.soundness.proofs.Facts.{Held, Waiter, Facts, TiesEnd, Queued, Runs, Rests, Sound}
 use Rattle.soundness.proofs.Holding.{holds-fits, fits-holds}
 
 -- ---- small readings
-
-inside : (low high x : ℕ) → not (outside low high x) ≡ true → (low ≤ x) × (x ≤ high)
-inside low high x e =
-    let n = not-true (outside low high x) e in
-    (ltb-false x low (nor-left (ltb x low) (ltb high x) n), ltb-false high x (nor-right (ltb x low) (ltb high x) n))
-
-to-inside : (low high x : ℕ) → low ≤ x → x ≤ high → not (outside low high x) ≡ true
-to-inside low high x a b = rw (le-ltb x low a, le-ltb high x b)
 
 -- below or not
 split : {X : Type 0} (a b : ℕ) → (a < b → X) → (b ≤ a → X) → X

@@ -4,6 +4,7 @@ use calls::Kind;
 use calls::Verdict;
 use calls::number;
 use engine::Timer;
+use engine::length_kept;
 use engine::state_of;
 use owners::signal;
 use plain::Clock;
@@ -57,7 +58,7 @@ pub fn start_timer(
     let i = (id % 32) as usize;
     let row = clock.timers[i];
     let ids = ids_verdict(counts.started, counts.clocks, id, counts.conditions, c);
-    let Length::Whole(length) = ticks_of(v) else {
+    let Length::Whole(first) = ticks_of(v) else {
         let verdict = first_of(ids, Verdict::OutOfRange);
         let answer = refuse(cells, verdict);
         return Timed { clock, answer };
@@ -70,13 +71,14 @@ pub fn start_timer(
         return Timed { clock, answer };
     }
     let state = state_of(kind);
+    let length = length_kept(kind, first);
     clock.timers[i] = Timer {
         state,
         condition: c,
         length,
     };
     let wheel = clock.wheel;
-    let after = wheel.start(id, length);
+    let after = wheel.start(id, first);
     clock.wheel = after;
     let answer = finish(cells, counts, 255, false);
     Timed { clock, answer }

@@ -10,7 +10,7 @@ use Rattle.laws.specs.Bools.{by-cases}
 use Rattle.units.specs.declared.Micros.{Micros}
 use Rattle.units.specs.declared.Length.the-variants as length
 use Rattle.units.specs.declared.Length.the-variants.{Whole}
-use Rattle.units.specs.Units.{outside, ticksIn, inTicks, lengthOf}
+use Rattle.units.specs.Units.{tooLong, ticksIn, inTicks, lengthOf}
 use Rattle.calls.specs.declared.Verdict.{Verdict}
 use Rattle.calls.specs.declared.Verdict.the-variants.{OutOfRange, TimerRunning}
 use Rattle.calls.specs.Answers.{numberOf}
@@ -18,9 +18,9 @@ use Rattle.rules.specs.Refusals.{_⇒_, verdict}
 use Rattle.verdicts.specs.Models.{startTimerVerdict, delayVerdict, firstOf}
 
 -- the length out of range, and then the state
-pub delay-tests : (v : Micros) (state : ℕ) → delayVerdict (lengthOf v) state ≡ verdict ((outside 1 65535 (ticksIn (v .0)) ⇒ OutOfRange) ∷ (not (eqb state 0) ⇒ TimerRunning) ∷ [])
+pub delay-tests : (v : Micros) (state : ℕ) → delayVerdict (lengthOf v) state ≡ verdict ((tooLong (ticksIn (v .0)) ⇒ OutOfRange) ∷ (not (eqb state 0) ⇒ TimerRunning) ∷ [])
 unfolding delayVerdict startTimerVerdict
-delay-tests v state = go (outside 1 65535 (ticksIn (v .0)))
+delay-tests v state = go (tooLong (ticksIn (v .0)))
   where
     go : (b : Bool) → delayVerdict (cond b length.OutOfRange (Whole (inTicks (ticksIn (v .0))))) state ≡ verdict ((b ⇒ OutOfRange) ∷ (not (eqb state 0) ⇒ TimerRunning) ∷ [])
     go true = refl

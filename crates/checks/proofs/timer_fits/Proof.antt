@@ -1,6 +1,5 @@
 -- `timer_fits` meets its contract: by its test, and each call by its own. Assumes nothing.
 use mathlib.Core.Path.{sym}
-use native.Mathlib.Omega.{arith}
 use Rattle.checks.proofs.Timing.{timer-stopped, timer-runs}
 use borrow.Author.Needs.{needs}
 use Rattle.checks.proofs.timer_fits.Statement.{statement}
@@ -15,6 +14,9 @@ both-requires-2 c κs = search needs
 returns : tie.Need-returns
 returns c = rw (c .both2 .ensures, c .before .before .both .ensures) (sym (timer-stopped _ _ (c .before .before .before .before .before .if1 .taken)))
 
+ticks-fit-requires : tie.Need-ticks-fit-requires
+ticks-fit-requires c κs = search needs
+
 both-requires-3 : tie.Need-both-requires-3
 both-requires-3 c κs = search needs
 
@@ -24,14 +26,12 @@ both-requires-4 c κs = search needs
 both-requires-5 : tie.Need-both-requires-5
 both-requires-5 c κs = search needs
 
-both-requires-6 : tie.Need-both-requires-6
-both-requires-6 c κs = search needs
-
 returns-2 : tie.Need-returns-2
 returns-2 c =
-    let counts = c .before .before .before .before .before .before in
-    rw (c .both6 .ensures, c .before .both5 .ensures, c .before .before .before .both4 .ensures, counts .both3 .ensures)
-    (sym (timer-runs _ _ (counts .before .before .before .if1 .left) (omega arith)))
+    let at-condition = c .before .before .before in
+    let at-ticks = at-condition .before .before .before in
+    rw (c .both5 .ensures, c .before .both4 .ensures, at-condition .both3 .ensures, at-ticks .ticks-fit .ensures)
+    (sym (timer-runs _ _ (at-ticks .before .before .if1 .left)))
 
 pub timer-fits-spec : {M : Type 1} → statement M
 timer-fits-spec =
@@ -40,8 +40,8 @@ timer-fits-spec =
     both-requires
     both-requires-2
     returns
+    ticks-fit-requires
     both-requires-3
     both-requires-4
     both-requires-5
-    both-requires-6
     returns-2)

@@ -21,8 +21,8 @@ ids-verdict-requires c κs = search needs
 ticks-of-requires : tie.Need-ticks-of-requires
 ticks-of-requires c κs = search needs
 
-enum-known-length : tie.Need-enum-known-length
-enum-known-length c = search needs
+enum-known-first : tie.Need-enum-known-first
+enum-known-first c = search needs
 
 enum-told : tie.Need-enum-told
 enum-told c = search needs
@@ -57,14 +57,17 @@ returns-2 c =
     let a = c .before .before .before .before .before .before .before .before .before .before .before .before .args in
     let x = engineIn (a .cells .now) (a .t2) (a .counts) in
     start-refused x (a .id) (a .c) (a .kind) (a .v) _ _ _ (c .before .before .before .before .before .before .before .before .before .before .ids-verdict .ensures) (c .before .before .before .before .before .before .before .before .before .ticks-of .ensures)
-    _ _ _ (c .before .before .before .before .before .before .before .length .given .1) (c .before .before .before .before .before .start-timer-verdict .ensures) (c .before .before .before .before .first-of2 .ensures) (c .before .before .before .number .ensures)
+    _ _ _ (c .before .before .before .before .before .before .before .first .given .1) (c .before .before .before .before .before .start-timer-verdict .ensures) (c .before .before .before .before .first-of2 .ensures) (c .before .before .before .number .ensures)
     _ (c .refuse2 .ensures) (c .before .before .if1 .taken)
 
 state-of-requires : tie.Need-state-of-requires
 state-of-requires c κs = search needs
 
-mul-t24 : tie.Need-mul-t24
-mul-t24 c = search needs
+length-kept-requires : tie.Need-length-kept-requires
+length-kept-requires c κs = search needs
+
+mul-t25 : tie.Need-mul-t25
+mul-t25 c = search needs
 
 element-set-from-clock : tie.Need-element-set-from-clock
 element-set-from-clock c = search needs
@@ -77,14 +80,24 @@ finish-requires c κs = search needs
 
 returns-3 : tie.Need-returns-3
 returns-3 c =
-    let a = c .before .before .before .before .before .before .before .before .before .before .before .before .before .before .before .args in
+    let at-start = c .before .before in
+    let at-length-kept = at-start .before .before in
+    let at-state-of = at-length-kept .before in
+    let tested = at-state-of .before in
+    let at-number = tested .before in
+    let at-first-of = at-number .before in
+    let at-start-timer-verdict = at-first-of .before in
+    let at-first = at-start-timer-verdict .before .before in
+    let at-ticks-of = at-first .before .before in
+    let at-ids-verdict = at-ticks-of .before in
+    let a = at-ids-verdict .before .before .args in
     let x = engineIn (a .cells .now) (a .t2) (a .counts) in
-    let state = c .before .before .before .before .state-of .ensures in
-    let length = c .before .before .before .before .before .before .before .before .before .before .length .given .0 .0 in
-    let wheel = c .before .before .start .ensures .0 in
-    start-done x (a .id) (a .c) (a .kind) (a .v) _ _ _ (c .before .before .before .before .before .before .before .before .before .before .before .before .before .ids-verdict .ensures) (c .before .before .before .before .before .before .before .before .before .before .before .before .ticks-of .ensures)
-    _ _ _ (c .before .before .before .before .before .before .before .before .before .before .length .given .1) (c .before .before .before .before .before .before .before .before .start-timer-verdict .ensures) (c .before .before .before .before .before .before .before .first-of2 .ensures) (c .before .before .before .before .before .before .number .ensures)
-    _ _ (c .finish .ensures _) (λ i. withTimer x (a .id) (record { state = state i; condition = a .c; length = length }) (wheel i)) (c .before .before .before .before .before .if1 .left)
+    let state = at-state-of .state-of .ensures in
+    let length = at-length-kept .length-kept .ensures in
+    let wheel = at-start .start .ensures .0 in
+    start-done x (a .id) (a .c) (a .kind) (a .v) _ _ _ (at-ids-verdict .ids-verdict .ensures) (at-ticks-of .ticks-of .ensures)
+    _ _ _ (at-first .first .given .1) (at-start-timer-verdict .start-timer-verdict .ensures) (at-first-of .first-of2 .ensures) (at-number .number .ensures)
+    _ _ (c .finish .ensures _) (λ i. withTimer x (a .id) (record { state = state i; condition = a .c; length = length i }) (wheel i)) (tested .if1 .left)
 
 pub start-timer-spec : {M : Type 1} → statement M
 start-timer-spec =
@@ -95,7 +108,7 @@ start-timer-spec =
     element-copy-out-row
     ids-verdict-requires
     ticks-of-requires
-    enum-known-length
+    enum-known-first
     enum-told
     first-of-requires
     refuse-requires
@@ -106,7 +119,8 @@ start-timer-spec =
     refuse-requires-2
     returns-2
     state-of-requires
-    mul-t24
+    length-kept-requires
+    mul-t25
     element-set-from-clock
     start-requires
     finish-requires

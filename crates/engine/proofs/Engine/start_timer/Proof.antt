@@ -25,8 +25,8 @@ ids-verdict-requires c κs = search needs
 ticks-of-requires : tie.Need-ticks-of-requires
 ticks-of-requires c κs = search needs
 
-enum-known-length : tie.Need-enum-known-length
-enum-known-length c = search needs
+enum-known-first : tie.Need-enum-known-first
+enum-known-first c = search needs
 
 enum-told : tie.Need-enum-told
 enum-told c = search needs
@@ -62,15 +62,18 @@ unfolding startTimerModel delayVerdict
 returns-2 c =
     let at-first-of = c .before .before .before in
     let at-start-timer-verdict = at-first-of .before in
-    let at-length = at-start-timer-verdict .before .before in
-    let at-ticks-of = at-length .before .before in
-    rw (← at-ticks-of .before .ids-verdict .ensures, ← at-ticks-of .ticks-of .ensures, at-length .length .given .1, ← at-start-timer-verdict .start-timer-verdict .ensures, ← at-first-of .first-of2 .ensures, ← c .before .before .number .ensures, ne-eqb _ _ (c .before .if1 .taken)) (c .refused2 .ensures)
+    let at-first = at-start-timer-verdict .before .before in
+    let at-ticks-of = at-first .before .before in
+    rw (← at-ticks-of .before .ids-verdict .ensures, ← at-ticks-of .ticks-of .ensures, at-first .first .given .1, ← at-start-timer-verdict .start-timer-verdict .ensures, ← at-first-of .first-of2 .ensures, ← c .before .before .number .ensures, ne-eqb _ _ (c .before .if1 .taken)) (c .refused2 .ensures)
 
 state-of-requires : tie.Need-state-of-requires
 state-of-requires c κs = search needs
 
-mul-t19 : tie.Need-mul-t19
-mul-t19 c = search needs
+length-kept-requires : tie.Need-length-kept-requires
+length-kept-requires c κs = search needs
+
+mul-t20 : tie.Need-mul-t20
+mul-t20 c = search needs
 
 element-set-from-self : tie.Need-element-set-from-self
 element-set-from-self c = search needs
@@ -84,13 +87,14 @@ answered-requires c κs = search needs
 returns-3 : tie.Need-returns-3
 unfolding startTimerModel delayVerdict
 returns-3 c =
-    let at-state-of = c .before .before .before in
+    let at-length-kept = c .before .before .before in
+    let at-state-of = at-length-kept .before in
     let tested = at-state-of .before in
     let at-first-of = tested .before .before in
     let at-start-timer-verdict = at-first-of .before in
-    let at-length = at-start-timer-verdict .before .before in
-    let at-ticks-of = at-length .before .before in
-    rw (← at-ticks-of .before .ids-verdict .ensures, ← at-ticks-of .ticks-of .ensures, at-length .length .given .1, ← at-start-timer-verdict .start-timer-verdict .ensures, ← at-first-of .first-of2 .ensures, ← tested .before .number .ensures, eq-eqb _ _ (tested .if1 .left), ← at-state-of .state-of .ensures, ← c .before .start .ensures .0) (c .answered .ensures)
+    let at-first = at-start-timer-verdict .before .before in
+    let at-ticks-of = at-first .before .before in
+    rw (← at-ticks-of .before .ids-verdict .ensures, ← at-ticks-of .ticks-of .ensures, at-first .first .given .1, ← at-start-timer-verdict .start-timer-verdict .ensures, ← at-first-of .first-of2 .ensures, ← tested .before .number .ensures, eq-eqb _ _ (tested .if1 .left), ← at-state-of .state-of .ensures, ← at-length-kept .length-kept .ensures, ← c .before .start .ensures .0) (c .answered .ensures)
 
 pub start-timer-spec : {M : Type 1} → statement M
 start-timer-spec =
@@ -101,7 +105,7 @@ start-timer-spec =
     element-copy-out-row
     ids-verdict-requires
     ticks-of-requires
-    enum-known-length
+    enum-known-first
     enum-told
     first-of-requires
     refused-requires
@@ -112,7 +116,8 @@ start-timer-spec =
     refused-requires-2
     returns-2
     state-of-requires
-    mul-t19
+    length-kept-requires
+    mul-t20
     element-set-from-self
     start-requires
     answered-requires
