@@ -3,7 +3,8 @@
     plain.py [COUNT [SEED]]     300 files and seed 1 unless given
 
 Builds bench/run.c, has the second program make COUNT call files that begin at
-boot, runs both on each and compares their texts byte by byte. Then it builds
+boot, runs both on each, and on one in which the longest periodic timer expires
+twice, and compares their texts byte by byte. Then it builds
 bench/measure.c, and holds the checksum that this prints for each mix of the
 benchmark against the sum over the second program's answers, and so for a loop
 with refused calls, after which it must end with 1. The last line is `N passed,
@@ -35,6 +36,10 @@ REFUSED_LOOP = (
     "0B 00 00 00 18 E4 03 00", "0C", "0C", "0B 00 00 00 30 E0 03 00", "0C",
     "0C 01",
 )
+# No generated file goes on from boot so long: the longest periodic timer is
+# due after 65,535 ticks, then after 65,534, and is stopped one tick later.
+LONG = ("04", "05", "01", "0B 00 00 01 30 F8 E7 03")
+LONG_TICKS = 65_535 + 65_534 + 1
 
 
 def build(room: Path, name: str) -> Path:
@@ -51,6 +56,15 @@ def files_from_boot(room: Path, seed: int, count: int) -> List[Path]:
     files = generate("calls", room, seed, 2 * count)
     found = [path for path in files if not path.with_suffix(".start").exists()]
     return found[:count]
+
+
+def long_file(room: Path) -> Path:
+    """The call file with the longest periodic timer."""
+    path = room / "long.bin"
+    path.write_bytes(
+        rows_of(LONG) + rows_of(("0D",)) * LONG_TICKS + rows_of(("0C",))
+    )
+    return path
 
 
 def judge_file(program: Path, calls: Path) -> str:
@@ -126,7 +140,7 @@ def compare_mixes(room: Path) -> Tuple[int, int]:
 def compare(room: Path, count: int, seed: int) -> Tuple[int, int]:
     """Build, generate, run and compare; how many passed and failed."""
     program = build(room, "run")
-    files = files_from_boot(room, seed, count)
+    files = [*files_from_boot(room, seed, count), long_file(room)]
     run_many((
         (str(path), "boot", "-", str(path.with_suffix(".want")))
         for path in files
@@ -136,7 +150,7 @@ def compare(room: Path, count: int, seed: int) -> Tuple[int, int]:
     passed = count_passed(lambda path: judge_file(program, path), files)
     mixes_passed, mixes_failed = compare_mixes(room)
     # A file that was asked for and not made has failed as well.
-    return passed + mixes_passed, count - passed + mixes_failed
+    return passed + mixes_passed, count + 1 - passed + mixes_failed
 
 
 def main(words: Sequence[str]) -> int:

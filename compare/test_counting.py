@@ -15,10 +15,11 @@ import sys
 import tempfile
 import unittest
 from pathlib import Path
-from typing import Sequence
+from typing import List, Sequence
 
-from held import TOP, Done
+from held import TOP, Done, count_unmet
 from plain import rows_of, sum_differs, weight
+from records import BOOT
 from run import GIVEN_BY_STOPS, Run, Stop, count_unmet_stops, stops_in
 
 sys.path.append(str(TOP / "words"))
@@ -30,14 +31,18 @@ TICK, STOP_0, STOP_1 = "0D", "0C", "0C 01"
 START_0 = "0B 00 00 00 E8 03"
 
 
-class Runs(unittest.TestCase):
-    """Stops are counted from rows, answers and the start's tick count."""
+class Room(unittest.TestCase):
+    """What has a folder for files."""
 
     def setUp(self) -> None:
-        """Make a folder for the files of a run."""
+        """Make the folder."""
         folder = tempfile.TemporaryDirectory()
         self.addCleanup(folder.cleanup)
         self.room = Path(folder.name)
+
+
+class Runs(Room):
+    """Stops are counted from rows, answers and the start's tick count."""
 
     def run_of(
         self, rows: Sequence[str], answers: Sequence[str], count: int = 0,
@@ -113,6 +118,41 @@ class Runs(unittest.TestCase):
         self.assertEqual(self.unmet(across), 5)
         four = self.run_of([STOP_0] * 4, answers[1:], 0, "four")
         self.assertEqual(self.unmet(four, across), 1)
+
+
+class Edges(Room):
+    """The edges of the rules for timers, from files made by hand."""
+
+    def unmet(self, what: str, *lines: str) -> List[str]:
+        """What is said to be missing, which is what is counted."""
+        said = io.StringIO()
+        with contextlib.redirect_stdout(said):
+            number = count_unmet(what, lines, self.room)
+        first, *others = said.getvalue().splitlines()
+        self.assertIn("edges of the rules for timers met: ", first)
+        self.assertEqual(number, len(others))
+        before = "not met, and counted as failed: "
+        return [line[len(before):] for line in others]
+
+    def test_calls(self) -> None:
+        """With no file all are missing, and a start is one fewer."""
+        every = self.unmet("calls")
+        self.assertIn("delay 65534001 periodic: tried", every)
+        calls = self.room / "calls.bin"
+        calls.write_bytes(rows_of((
+            "04", "05", "01", "0B 00 00 01 31 F8 E7 03",
+        )))
+        some = self.unmet("calls", f"{calls} boot")
+        self.assertEqual(
+            set(every) - set(some), {"delay 65534001 periodic: tried"}
+        )
+
+    def test_records(self) -> None:
+        """With no file all five are missing, and the boot record is none."""
+        self.assertEqual(len(self.unmet("records")), 5)
+        boot = self.room / "boot.bin"
+        boot.write_bytes(BOOT)
+        self.assertEqual(len(self.unmet("records", str(boot))), 5)
 
 
 class Sums(unittest.TestCase):

@@ -414,7 +414,7 @@ def broadcast(book: Book, call: Call) -> int:
 
 
 def start_timer(book: Book, call: Call) -> int:
-    """11: first due once the length has passed; the repeat is shorter."""
+    """11: first due after the length; a periodic timer keeps its repeat."""
     timer, length = book.timers[call.a], length_of(call.v)
     timer.state = ONE_SHOT + call.kind
     timer.condition_variable = call.b

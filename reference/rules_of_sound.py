@@ -352,9 +352,10 @@ def timer_length(record: Record) -> Breaches:
     """A running timer has n 1 or more: no repeat has 0 ticks."""
     for identity, timer in enumerate(record.timers):
         if timer.state != TIMER_STOPPED and timer.length < 1:
+            named = "repeat" if timer.state == PERIODIC else "length"
             yield Breach(
                 f"timer {identity}",
-                f"it runs, and its length is {timer.length}, not 1 or more",
+                f"it runs, and its {named} is {timer.length}, not 1 or more",
             )
 
 

@@ -24,7 +24,8 @@ ANSWERS: Mapping[int, str] = {
     3: "the scheduler is started already",
     4: "an id that does not exist",
     5: "thread 0 may not acquire or wait",
-    6: "base or ceiling outside 1 to 15, or length above 65535 ticks",
+    6: "base or ceiling outside 1 to 15, or a delay above 65534000 "
+       "microseconds",
     7: "that table is full",
     8: "the caller's priority is above the ceiling",
     9: "the caller is not the owner",

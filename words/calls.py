@@ -109,9 +109,9 @@ FORMS: Tuple[Form, ...] = (
     form(10, "broadcast CONDITION", "signals until none waits"),
     form(11, "start timer TIMER CONDITION KIND MICROSECONDS",
          f"it is due in MICROSECONDS / {MICROSECONDS_PER_TICK} ticks, rounded "
-         "up, and one more, since the tick in progress is partly used; a "
-         "periodic one again after one tick less each time, but after 1 at "
-         "least"),
+         "up, plus 1 for the tick in progress; a periodic one again every "
+         f"MICROSECONDS / {MICROSECONDS_PER_TICK} ticks, rounded up, or every "
+         "tick where that is 0"),
     form(12, "stop timer TIMER",
          "the timer is stopped, and the ticks that were left are given"),
     form(13, "tick",

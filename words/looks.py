@@ -76,8 +76,9 @@ def ticks(length: int) -> str:
 
 def lasting(look: Look) -> str:
     """How long a timer takes to expire, or to do so again."""
-    often = "every " if look.kind == "periodic" else ""
-    return often + ticks(look.length)
+    if look.kind != "periodic":
+        return ticks(look.length)
+    return "every tick" if look.length == 1 else f"every {ticks(look.length)}"
 
 
 def sentence(lane: Lane, look: Look) -> str:

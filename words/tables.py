@@ -99,7 +99,8 @@ def condition_variable_rows(record: Record) -> Table:
 def timer_rows(record: Record) -> Table:
     """The timers."""
     rows: Table = [
-        ("timer", "state", "condition variable", "length", "ticks left")
+        ("timer", "state", "condition variable", "length or repeat",
+         "ticks left")
     ]
     for identity, timer in enumerate(record.timers):
         rows.append((

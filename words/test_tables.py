@@ -116,7 +116,7 @@ class Tables(unittest.TestCase):
             "condition variables:", "condition variable tied mutex",
             "0 -", "1 1",
             "timers:",
-            "timer state condition variable length ticks left",
+            "timer state condition variable length or repeat ticks left",
             "0 stopped - 0 0", "1 one-shot 0 300 299", "2 periodic 1 5 1",
             "in words:",
             "thread 1 runs",

@@ -1067,8 +1067,9 @@ CALLS_BY_HAND: Tuple[Tuple[str, Tuple[str, ...]], ...] = (
                           "owns the tied mutex or waits for it")),
     ("broadcast CONDITION", ("signals until none waits",)),
     ("start timer TIMER CONDITION one-shot|periodic MICROSECONDS",
-     ("due", "MICROSECONDS / 1000 ticks, rounded up, and one more",
-      "a periodic one again after one tick less", "but after 1 at least")),
+     ("due in MICROSECONDS / 1000 ticks, rounded up, plus 1 for the tick in",
+      "a periodic one again every MICROSECONDS / 1000 ticks, rounded up",
+      "or every tick where that is 0")),
     ("stop timer TIMER", ("is stopped", "ticks that were left")),
     ("tick", ("the count advances", "each timer now due, in order of id")),
 )
@@ -1148,6 +1149,11 @@ class Guide(Case):
         self.assertEqual(list(answers.ANSWERS), list(range(18)))
         self.assertEqual(list(answers.GIVEN_TO), list(range(18)))
         self.assertEqual(answers.ANSWERS[0], "done")
+        longest = calls.FIELDS["MICROSECONDS"].most
+        self.assertEqual(answers.ANSWERS[6], (
+            "base or ceiling outside 1 to 15, or a delay above "
+            f"{longest} microseconds"
+        ))
         # A word of document 01's table for each number.
         words = (
             "done", "sound", "stopped", "started", "id", "thread 0",
@@ -1231,7 +1237,11 @@ class Guide(Case):
         """Every call, every other line and every bound is on the page."""
         page = (DOCS / "TEXTS.md").read_text("utf-8")
         for form in calls.FORMS:
-            self.assertIn("`" + " ".join(form.words + form.fields), page)
+            pattern = "| `" + " ".join(form.words + form.fields) + "`"
+            line, = (
+                line for line in page.split("\n") if line.startswith(pattern)
+            )
+            self.assertIn(f" | {form.does}", line)
         for name in calls.FIELDS:
             self.assertIn(f"{name} is {calls.bounds_of(name)}", page)
         for pattern, _ in OTHER_LINES[:3] + OTHER_LINES[4:7]:

@@ -658,7 +658,7 @@ class Timers(unittest.TestCase):
             "ticks 0 to 1",
         ])
         self.assertEqual(titles(root, "periodic"), [
-            "timer 1 runs, periodic, every 1 tick, for condition variable 0, "
+            "timer 1 runs, periodic, every tick, for condition variable 0, "
             "ticks 0 to 3",
         ])
         self.assertEqual(titles(root, "expiry"), [

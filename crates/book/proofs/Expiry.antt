@@ -14,6 +14,7 @@ use borrow.Author.Tests.{eqb-false, eq-eqb, ne-eqb, leb-false}
 use Rattle.laws.specs.Bools.{by-cases, no-way, nor-left, and-true, and-false}
 use Rattle.laws.specs.Lists.{by-equal}
 use Rattle.units.specs.Units.{ticksIn, repeatOf}
+use Rattle.units.proofs.Lengths.{never-early}
 use Rattle.units.specs.declared.Micros.{Micros}
 use Rattle.calls.specs.declared.Call.{Call}
 use Rattle.calls.specs.declared.Call.the-variants.{Start, CreateThread, CreateMutex, CreateCondition, CreateTimer, Acquire, Release, Wait, Signal, Broadcast, StartTimer, StopTimer, Tick}
@@ -327,6 +328,16 @@ module _ (s : State) (e : sound s ≡ true) (i c : ℕ) (v : Micros) where
       let t = step s (StartTimer i c kind v) .state in
       let past = ticksTaken rows (answersOf t rows) in
       known-expires (finalOf t rows) i (fewer past (newTimer c kind v)) _ (timer-since-start kind z rows n d) (goes-kind kind) (one-left (ticksIn (v .0)) past d)
+
+  -- so it does not expire early: a tick that comes while the whole ticks since its start last less than v microseconds does not expire it
+  pub never-expires-early : (kind : Kind) → step s (StartTimer i c kind v) .answer .number ≡ 0 → (rows : List Decoded) → NeverStops i rows
+      → ticksTaken rows (answersOf (step s (StartTimer i c kind v) .state) rows) * 1000 < v .0
+      → Expires (finalOf (step s (StartTimer i c kind v) .state) rows) i c false
+  never-expires-early kind z rows n early =
+      let past = ticksTaken rows (answersOf (step s (StartTimer i c kind v) .state) rows) in
+      let few : past + 1 < ticksIn (v .0) = omega (arith, early, never-early (v .0)) in
+      subst (λ y. Expires (finalOf (step s (StartTimer i c kind v) .state) rows) i c y) (ne-eqb (past + 1) (ticksIn (v .0)) (λ q. omega (arith, few, q)))
+      (expires-at-its-tick kind z rows n (omega (arith, few)))
 
   -- and a periodic one again its repeat later, each time, and at none between
   pub expires-again : step s (StartTimer i c Periodic v) .answer .number ≡ 0 → (rows : List Decoded) → NeverStops i rows

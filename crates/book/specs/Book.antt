@@ -17,7 +17,7 @@ pub record Thread : Type 0 where
   pub stands : Where
   pub mark : ℤ
 
--- a timer: stopped, one-shot or periodic, its condition variable, its length, and the tick at which it is due
+-- a timer: stopped, one-shot or periodic, its condition variable, its length or a periodic one's repeat, and the tick at which it is due
 pub record Timer : Type 0 where
   pub state : TimerState
   pub condition : ℕ

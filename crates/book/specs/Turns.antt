@@ -42,7 +42,7 @@ unfoldable pub kindState : Kind → TimerState
 kindState OneShot = oneShot
 kindState Periodic = periodic
 
--- the n that a timer keeps by the kind it is started with: a periodic one's is the ticks from one expiry to the next (document 02, L5)
+-- the n of a timer by the kind it is started with, where the length is n: a periodic one keeps the ticks from one expiry to the next (document 02, L5)
 unfoldable pub kindLength : Kind → ℕ → ℕ
 kindLength OneShot n = n
 kindLength Periodic n = repeatOf n
@@ -159,7 +159,7 @@ unfoldable pub signals : ℕ → Book → ℕ → Outcome
 signals zero b c = record { book = b; given = 0 }
 signals (suc n) b c = let s = signal b c in let others = signals n (s .book) c in record { book = others .book; given = s .given + others .given }
 
--- a timer after it was due: a one-shot stops, a periodic one is due again n ticks later
+-- a timer after it was due: a one-shot stops, a periodic one is due again its own n ticks later
 unfoldable pub renewed : Timer → TimerState → Timer
 renewed x stopped = x
 renewed x oneShot = stoppedTimer

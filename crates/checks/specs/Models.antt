@@ -28,7 +28,7 @@ timerAt rows i = getD rows (i % 32) noTimerRow
 unfoldable pub ticksFit : Bool → ℕ → ℕ → Bool
 ticksFit once n left = not (outside 1 65535 n) && not (outside 1 65535 left) && leb left (cond once n (n + 1))
 
--- a running timer has an existing condition variable, n from 1 to 65,535 and ticks left from 1 to the most of its state; a stopped one 255, 0 and 0
+-- a running timer has an existing condition variable, n and ticks left from 1 to 65,535, and left at most the most of its state; a stopped one 255, 0 and 0
 unfoldable pub runsOn : ℕ → TimerRow → Bool
 runsOn n row =
     cond (goes (timerStateOf (row .state)))

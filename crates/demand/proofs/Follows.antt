@@ -1,7 +1,8 @@
 -- What follows for the kernel of the code, from any sound kernel and through any number of calls and rows: every kernel after them is sound; a running
 -- thread never stands below a ready one; ids are given in order and never again; a broadcast leaves none waiting; a timer set for n ticks expires at
--- the nth accepted tick after its start, unless it is stopped first, and not before, and a periodic one again n ticks later each time; a stop gives n
--- less the accepted ticks since its start or its last expiry, which is 1 to 65,535.
+-- the nth accepted tick after its start, unless it is stopped first, and not before, and a periodic one again its repeat later each time; none expires
+-- before its delay has passed; a stop gives n less the accepted ticks since its start, or the repeat less those since its last expiry, which is 1 to
+-- 65,535.
 -- Assumes nothing.
 use Prim.Native.Nat.{ℕ, _+_, _-_, _*_, _%_, _<_, _≤_}
 use mathlib.Core.Path.{_≡_, refl, sym, ap, ap₂, _∙_, subst}
@@ -39,7 +40,7 @@ use Rattle.book.specs.Answers.{answersOf, finalOf}
 use Rattle.book.specs.History.{ticksTaken, NeverStops, Expires, repeating, GivesTicks, Table, threads, mutexes, conditions, timers, size, idsGiven, upFrom}
 use Rattle.book.proofs.Accepted.{by-answer}
 use Rattle.book.proofs.Demand.{rows-keep}
-use Rattle.book.proofs.Expiry.{tick-expires, expires-at-its-tick, expires-again}
+use Rattle.book.proofs.Expiry.{tick-expires, expires-at-its-tick, never-expires-early, expires-again}
 use Rattle.book.proofs.Stops.{stop-gives-1-to-65535, stop-gives-what-is-left, periodic-stop-gives, stop-gives-length-less-ticks, stop-gives-since-last-expiry}
 use Rattle.book.proofs.Ids.{ids-in-order}
 use Rattle.book.proofs.Emptied.{broadcast-empties}
@@ -238,6 +239,15 @@ module _ (x : Kernel) (w : SoundKernel x) (i c : ℕ) (v : Micros) where
         let told = expires-at-its-tick (sound-state x w .0) (sound-state x w .1) i c v kind start-taken rows never (subst (λ n. n < ticksIn (v .0)) past few) in
         subst (λ n. TickGives y q i c (eqb (n + 1) (ticksIn (v .0)))) (sym past)
         (tick-told (finalOf (started kind) rows) (rows-keep (started kind) start-sound rows) y (ends .1) i c _ told q steps z)
+
+    -- so it does not expire early: not at a tick that comes while the whole ticks since its start last less than v microseconds
+    pub kernel-never-expires-early : (rows : List Decoded) (answers : List Answer) (y : Kernel) → Repeats (r .kernel) rows answers y → NeverStops i rows → ticksTaken rows answers * 1000 < v .0
+        → (q : Stepped) → Steps y (Taken Tick) q → q .answer .number ≡ 0 → TickGives y q i c false
+    kernel-never-expires-early rows answers y run never early q steps z =
+        let ends = after-start rows answers y run in
+        let past = ap (ticksTaken rows) (ends .0) in
+        let told = never-expires-early (sound-state x w .0) (sound-state x w .1) i c v kind start-taken rows never (subst (λ n. n * 1000 < v .0) past early) in
+        tick-told (finalOf (started kind) rows) (rows-keep (started kind) start-sound rows) y (ends .1) i c false told q steps z
 
     -- until then a stop is done and gives n less the accepted ticks since the start
     pub kernel-stop-gives-length-less-ticks : (rows : List Decoded) (answers : List Answer) (y : Kernel) → Repeats (r .kernel) rows answers y → NeverStops i rows

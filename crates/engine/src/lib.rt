@@ -45,7 +45,7 @@ ghost use Rattle.engine.specs.Stands.{engineOf, steppedOf};
 ghost use Rattle.wheel.specs.Promise.{idsOf};
 ghost use Rattle.engine.specs.Models.{bootModel, kindCode, refusedModel, answeredModel, startModel, createThreadModel, createMutexModel, createConditionModel, createTimerModel, acquireModel, releaseModel, waitModel, signalModel, broadcastModel, startTimerModel, timerStopped, stopTimerModel, serveModel, serveAllModel, tickModel, stepModel};
 
-// A timer's row: its state (0 stopped, 1 one-shot, 2 periodic), its condition variable, 255 for none, and its length in ticks.
+// A timer's row: its state (0 stopped, 1 one-shot, 2 periodic), its condition variable, 255 for none, and n, which is the repeat of a periodic one.
 pub struct Timer {
     pub state: u8,
     pub condition: u8,
@@ -87,7 +87,7 @@ pub fn state_of(kind: Kind) -> u8
     }
 }
 
-// The n that a timer's row keeps, where its first expiry comes after n: a periodic one's is the repeat.
+// The n of a timer's row, where the length is n: a periodic one's row keeps the repeat.
 pub fn length_kept(kind: Kind, n: Ticks) -> Ticks
     ensures { λ r. ⌜ r ≡ inTicks (lengthKept kind (n .0)) ⌝ }
 {

@@ -60,7 +60,7 @@ further =
     ∷ record { shown = runnerAndWaiters 4 (from boot (equalsSliced ++ (Acquire 0 ∷ []))); seen = 1 ∷ 2 ∷ [] }
     -- mutexes waited for in a ring: each thread takes the other's, thread 0 runs, and the state is sound
     ∷ record { shown = soundAndAnswer (from boot (equalsSliced ++ (Acquire 1 ∷ Tick ∷ Acquire 1 ∷ Acquire 0 ∷ []))); seen = 1 ∷ 0 ∷ 255 ∷ 0 ∷ [] }
-    -- a stop gives the ticks left before it: all at once, which may be the most, and one fewer for each tick
+    -- a stop gives the ticks left before it: all of them before any tick, which may be the most, and one fewer after each
     ∷ record { shown = stopAfter 0 (timed OneShot 65535 0); seen = 0 ∷ 65535 ∷ 1 ∷ [] }
     ∷ record { shown = stopAfter 0 (timed OneShot 257 0); seen = 0 ∷ 257 ∷ 1 ∷ [] }
     ∷ record { shown = stopAfter 1 (timed OneShot 257 0); seen = 0 ∷ 256 ∷ 1 ∷ [] }

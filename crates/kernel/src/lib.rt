@@ -189,7 +189,7 @@ impl Kernel {
         self.step(Call::Broadcast(c))
     }
 
-    // Call 11: a timer is set to signal condition variable c after v microseconds.
+    // Call 11: a timer is set to signal condition variable c once v microseconds have passed, and a periodic one again and again.
     pub fn start_timer(mut self, id: u8, c: u8, kind: Kind, v: Micros) -> Stepped
         ensures { λ r. ⌜ Steps self (Taken (StartTimer id c kind v)) r ⌝ }
     {

@@ -14,7 +14,7 @@ pub struct ThreadRow {
     pub place: u8,
 }
 
-// A timer: its state (0 stopped, 1 one-shot, 2 periodic), its condition variable or 255, its length n and its ticks left.
+// A timer: its state (0 stopped, 1 one-shot, 2 periodic), its condition variable or 255, n, which is its length or a periodic one's repeat, and its ticks left.
 pub struct TimerRow {
     pub state: u8,
     pub condition: u8,

@@ -1,5 +1,5 @@
 -- The sound rule as it was before document 02, L5: document 01's, by which every running timer, a periodic one too, has ticks left from 1 to n.
--- No code tests it. It stands here so that a theorem can say that what was sound by it is sound by the rule of today.
+-- No code tests it. It stands here so that a theorem can say that what was sound by it is sound by the rule of today, and what it asked besides.
 -- Assumes nothing.
 use Prim.Native.Nat.{ℕ}
 use mathlib.Core.Bool.{Bool, true, cond, not, _&&_}
@@ -36,6 +36,11 @@ clausesBefore k count ts =
     ∷ conditionsSound k
     ∷ timersSoundBefore k ts
     ∷ implies (not (k .started)) (all (rest k count ts)) ∷ []
+
+-- no timer has more ticks left than n
+unfoldable pub noneAboveN : List Timer → Bool
+noneAboveN [] = true
+noneAboveN (x ∷ xs) = leb (x .left) (x .length) && noneAboveN xs
 
 -- a state that was sound
 unfoldable pub soundBefore : State → Bool

@@ -111,12 +111,12 @@ abbrev pub stateOf : Kind → TimerState
 stateOf OneShot = oneShot
 stateOf Periodic = periodic
 
--- the n that a timer's row keeps, where its first expiry comes after n ticks: a periodic one's is the repeat (document 02, L5)
+-- the n of a timer's row, where the length is n ticks: a periodic one's row keeps the repeat (document 02, L5)
 abbrev pub lengthKept : Kind → ℕ → ℕ
 lengthKept OneShot n = n
 lengthKept Periodic n = repeatOf n
 
--- a timer of this kind as it is started with condition variable c
+-- a timer of this kind as it is started with condition variable c: its first expiry comes after n ticks
 abbrev pub startedTimer : ℕ → Kind → ℕ → Timer
 startedTimer c kind n = record { state = stateOf kind; condition = c; length = lengthKept kind n; left = n }
 
@@ -130,7 +130,7 @@ goes periodic = true
 abbrev pub isDue : Timer → Bool
 isDue x = goes (x .state) && eqb (x .left) 1
 
--- a timer that was due: a one-shot stops, a periodic one is due again n ticks later
+-- a timer that was due: a one-shot stops, a periodic one is due again its row's n ticks later
 abbrev pub afterDue : TimerState → Timer → Timer
 afterDue stopped x = x
 afterDue oneShot x = stoppedTimer

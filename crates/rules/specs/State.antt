@@ -54,7 +54,7 @@ pub record Mutex : Type 0 where
 pub data TimerState : Type 0 where
   stopped oneShot periodic : TimerState
 
--- a timer: its state, its condition variable, its length n and its ticks left
+-- a timer: its state, its condition variable, n, which is its length or a periodic one's repeat, and its ticks left
 pub record Timer : Type 0 where
   pub state : TimerState
   pub condition : ℕ

@@ -1,5 +1,5 @@
 -- What the length of a delay and the repeat are: a delay is out of range exactly above 65,534,000 microseconds; n ticks, of which the first is partly used,
--- last at least v microseconds, and no smaller n does; the repeat is 1 to 65,535 where n is, and n is at most one more.
+-- last at least v microseconds, and fewer do not; the repeat is 1 to 65,535 where n is, and n is at most one more.
 -- Assumes nothing.
 use Prim.Native.Nat.{ℕ, _+_, _-_, _*_, _<_, _≤_}
 use mathlib.Core.Path.{_≡_, refl, subst}
@@ -32,9 +32,9 @@ refused-above-65534000 v = go (ltb 65534000 v) refl
 pub never-early : (v : ℕ) → v ≤ (ticksIn v - 1) * 1000
 never-early v = omega arith
 
--- and with one tick fewer it might
-pub no-later-than-needed : (v : ℕ) → 0 < v → (ticksIn v - 2) * 1000 < v
-no-later-than-needed v some = omega arith
+-- and what fewer ticks last is, of any that a timer can have
+pub no-later-than-needed : (v n : ℕ) → 1 ≤ n → n < ticksIn v → (n - 1) * 1000 < v
+no-later-than-needed v n some fewer = omega arith
 
 -- ---- the repeat
 
