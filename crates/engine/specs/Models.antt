@@ -160,7 +160,8 @@ broadcastModel x c =
     let g = scheduler.broadcastModel 32 0 (x .scheduler) c in
     judged (idVerdict (x .started) (x .conditions) c) x (withScheduler x (g .scheduler)) (g .left)
 
--- the engine with timer id started for condition variable c: it comes due first after this length, which its row keeps, or the repeat of a periodic one; out of range nothing changes
+-- the engine with timer id started for condition variable c: first due after this length, which its row keeps, or a periodic one's the repeat; out of
+-- range nothing changes
 abbrev pub timerStarted : Engine → ℕ → ℕ → Kind → Length → Engine
 timerStarted x id c kind OutOfRange = x
 timerStarted x id c kind (Whole n) = withTimer x id (record { state = kindCode kind; condition = c; length = inTicks (lengthKept kind (n .0)) }) (startedIn (x .wheel) id (n .0))
