@@ -91,9 +91,10 @@ pub fn state_of(kind: Kind) -> u8
 pub fn length_kept(kind: Kind, n: Ticks) -> Ticks
     ensures { λ r. ⌜ r ≡ inTicks (lengthKept kind (n .0)) ⌝ }
 {
+    let repeat = repeat_of(n);
     match kind {
         Kind::OneShot => n,
-        Kind::Periodic => repeat_of(n),
+        Kind::Periodic => repeat,
     }
 }
 
