@@ -412,7 +412,25 @@ class CallFiles(unittest.TestCase):
         self.assertGreater(stops, 500)
 
 
-class Stops(unittest.TestCase):
+class MadeForCases(unittest.TestCase):
+    """What call files that are made for cases have in common."""
+
+    def hold_shapes(
+        self, files: Tuple[CallFile, ...], loaded: Tuple[CallFile, ...],
+        to_round: int,
+    ) -> None:
+        """None is long; the records are sound and so near the round."""
+        for made in files:
+            self.assertLess(len(made.rows) // 8, 1_000)
+            self.assertEqual(len(made.rows) % 8, 0)
+        for made in loaded:
+            assert made.start is not None
+            self.assertIsNone(broken_rule(made.start))
+            count = record_of(made.start).tick_count
+            self.assertLessEqual(2 ** 32 - count, to_round)
+
+
+class Stops(MadeForCases):
     """Call files made for stops: each of them meets every case."""
 
     FEW = (1, 255, 256, 257)
@@ -464,17 +482,10 @@ class Stops(unittest.TestCase):
         """The records are sound and near the round; no file is long."""
         both = self.made(0) + self.made(1)
         self.assertEqual(len(both), FILES // STOPS_EVERY)
-        for made in both:
-            self.assertLess(len(made.rows) // 8, 1_000)
-            self.assertEqual(len(made.rows) % 8, 0)
-        for made in self.made(1):
-            assert made.start is not None
-            self.assertIsNone(broken_rule(made.start))
-            count = record_of(made.start).tick_count
-            self.assertLessEqual(2 ** 32 - count, 64)
+        self.hold_shapes(both, self.made(1), 64)
 
 
-class Delays(unittest.TestCase):
+class Delays(MadeForCases):
     """Call files made for delays: each of them meets every case."""
 
     ACCEPTED = (
@@ -555,14 +566,7 @@ class Delays(unittest.TestCase):
         """The records are sound and at the round; no file is long."""
         both = self.made(0) + self.made(1)
         self.assertEqual(len(both), FILES // DELAYS_EVERY)
-        for made in both:
-            self.assertLess(len(made.rows) // 8, 1_000)
-            self.assertEqual(len(made.rows) % 8, 0)
-        for made in self.made(1):
-            assert made.start is not None
-            self.assertIsNone(broken_rule(made.start))
-            count = record_of(made.start).tick_count
-            self.assertLessEqual(2 ** 32 - count, 3)
+        self.hold_shapes(both, self.made(1), 3)
 
 
 class Records(unittest.TestCase):

@@ -10,7 +10,7 @@ use lib.Dec.{eqb, ltb, leb}
 use borrow.Author.Tests.{eqb-true, eqb-false, eq-eqb, ne-eqb, ltb-false, leb-false, not-false}
 use Rattle.laws.specs.Bools.{nor-left, nor-right}
 use Rattle.laws.specs.Lists.{map-set}
-use Rattle.units.specs.Units.{ticksIn, outside}
+use Rattle.units.specs.Units.{ticksIn}
 use Rattle.calls.specs.declared.Call.{Call}
 use Rattle.calls.specs.declared.Call.the-variants.{Start, CreateThread, CreateMutex, CreateCondition, CreateTimer, Acquire, Release, Wait, Signal, Broadcast, StartTimer, StopTimer, Tick}
 use Rattle.calls.specs.declared.Kind.{Kind}
@@ -23,6 +23,7 @@ use Rattle.rules.specs.Next as N
 use Rattle.rules.specs.Effects.{threadCreated, mutexCreated, conditionCreated, acquired, released, waited, signalled, signalledTimes, leavers, stateOf, lengthKept, startedTimer, ticked, dueConditions, signalledEach, nextCount, withScheduler, effect, given}
 use Rattle.rules.specs.Effects as E
 use Rattle.rules.specs.Refusals.{tests}
+use Rattle.soundness.proofs.Tests.{within}
 use Rattle.soundness.proofs.Facts.{Sound}
 use Rattle.soundness.proofs.Next.{Kept, Turned, Chosen, facts-handed, queued-handed, first-runs}
 use Rattle.soundness.proofs.Calls.{Going, turned-going, Left, left-turned, AllBelow, left-acquired, left-released, left-waited, left-signalled, left-times, left-each}
@@ -106,9 +107,6 @@ module _ {s : State} (o : Sound s) {b : Book} (x : Same s b) (off : s .scheduler
   }
 
 -- ---- 2 to 4
-
-within : (low high n : ℕ) → outside low high n ≡ false → (low ≤ n) × (n ≤ high)
-within low high n e = (ltb-false n low (nor-left (ltb n low) (ltb high n) e), ltb-false high n (nor-right (ltb n low) (ltb high n) e))
 
 module _ {s : State} (o : Sound s) {b : Book} (x : Same s b) where
   thread-before-next : (p : ℕ) → length (s .scheduler .rows .threads) < 32 → 1 ≤ p → p ≤ 15 → BeforeNext (withScheduler s (threadCreated (s .scheduler) p)) (createThread b p)

@@ -9,7 +9,7 @@ use native.Mathlib.Omega.{arith}
 use lib.ListN.{length, set, length-set, List·getD-eq-default}
 use lib.Seq.{getD-set-same, getD-set-other}
 use lib.Dec.{eqb, ltb, leb}
-use borrow.Author.Tests.{eqb-true, eq-eqb, lt-ltb, ltb-false, leb-false}
+use borrow.Author.Tests.{eqb-true, eq-eqb, lt-ltb, leb-false}
 use Rattle.laws.specs.Bools.{nor-left, and-right, and-both, cond-true, cond-false}
 use Rattle.laws.specs.Lists.{by-below, tabulate, getD-tabulate, length-tabulate, set-tabulate}
 use Rattle.units.specs.declared.Micros.{Micros}

@@ -6,8 +6,8 @@ use mathlib.Core.Bool.{Bool, true, false, cond, _&&_}
 use mathlib.Core.List.{List, [], _∷_, _++_, map, flatten}
 use native.Mathlib.Omega.{arith}
 use lib.ListN.{length, getD, length-map}
-use lib.Dec.{eqb, ltb, leb}
-use borrow.Author.Tests.{eqb-true, ltb-true, leb-true}
+use lib.Dec.{eqb, ltb}
+use borrow.Author.Tests.{eqb-true, ltb-true}
 use Rattle.laws.specs.Bools.{by-cases, and-left, and-right}
 use Rattle.laws.specs.Lists.{by-equal, tabulate, length-tabulate, getD-tabulate}
 use Rattle.rules.specs.State.{Where, running, ready, forMutex, onCondition, TimerState, stopped, oneShot, periodic, Timer, Rows, State, noMutex, thread, mutex, tied, at}

@@ -8,7 +8,7 @@ use Rattle.rules.specs.Page.{describedBy}
 use Rattle.rules.specs.Earlier.{pageSoundBefore}
 use Rattle.soundness.proofs.Earlier.{page-before-is-sound}
 use Rattle.saved.specs.Record.{pageIn, formed}
-use Rattle.saved.specs.Loading.{Loaded, load}
+use Rattle.saved.specs.Loading.{load}
 
 pub record-before-loads : (bytes : List ℕ) → formed bytes ≡ true → pageSoundBefore (pageIn bytes) ≡ true → load bytes ≡ record { answer = Done; state = describedBy (pageIn bytes) }
 unfolding load

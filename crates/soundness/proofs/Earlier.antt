@@ -16,7 +16,7 @@ use Rattle.rules.specs.Sound.{all, each, mostLeft, timerSound, timersSound, cla
 use Rattle.rules.specs.Page.{Page, timerOf, rowsOf, placeSound, objectSound, eachRow, pageSound}
 use Rattle.rules.specs.Earlier.{timerSoundBefore, timersSoundBefore, clausesBefore, noneAboveN, soundBefore, pageSoundBefore}
 use Rattle.soundness.proofs.Tests.{iff, all-true, true-all}
-use Rattle.soundness.proofs.Timers.{Goes, timer-going, going-timer}
+use Rattle.soundness.proofs.Timers.{timer-going, going-timer}
 
 -- ---- one timer
 

@@ -9,7 +9,7 @@ use lib.ListN.{length, set, length-set, length-map}
 use lib.Dec.{eqb, ltb, leb}
 use borrow.Author.Tests.{eqb-true, eqb-false, eq-eqb, ne-eqb, ltb-false, leb-false, not-false}
 use Rattle.laws.specs.Bools.{by-cases, no-way, nor-left, nor-right, cond-true, cond-false}
-use Rattle.units.specs.Units.{ticksIn, outside}
+use Rattle.units.specs.Units.{ticksIn}
 use Rattle.calls.specs.declared.Call.{Call}
 use Rattle.calls.specs.declared.Call.the-variants.{Start, CreateThread, CreateMutex, CreateCondition, CreateTimer, Acquire, Release, Wait, Signal, Broadcast, StartTimer, StopTimer, Tick}
 use Rattle.calls.specs.declared.Kind.{Kind}
@@ -21,6 +21,7 @@ use Rattle.rules.specs.Effects.{threadCreated, mutexCreated, conditionCreated, 
 use Rattle.rules.specs.Refusals.{Test, verdict, tests, verdictOf}
 use Rattle.rules.specs.Sound.{timersSound}
 use Rattle.rules.specs.Step.{isTick, after, stepSound}
+use Rattle.soundness.proofs.Tests.{within}
 use Rattle.soundness.proofs.Rows.{same-self, at-stand, length-stand}
 use Rattle.soundness.proofs.Facts.{Rests, Sound}
 use Rattle.soundness.proofs.Next.{Kept, Turned, Chosen, facts-handed, queued-handed, first-runs, next-chosen}
@@ -67,9 +68,6 @@ telling k ts Tick = (λ e. omega arith, tt)
 pub passed : (s : State) (call : Call) → numberOf (verdictOf s call) ≡ 0 → Clear (tests (s .scheduler .rows) (s .timers) call)
 unfolding verdictOf
 passed s call e = clear (tests (s .scheduler .rows) (s .timers) call) (telling (s .scheduler .rows) (s .timers) call) e
-
-within : (low high x : ℕ) → outside low high x ≡ false → (low ≤ x) × (x ≤ high)
-within low high x e = (ltb-false x low (nor-left (ltb x low) (ltb high x) e), ltb-false high x (nor-right (ltb x low) (ltb high x) e))
 
 -- ---- from a sound state
 

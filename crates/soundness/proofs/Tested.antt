@@ -7,8 +7,8 @@ use mathlib.Core.List.{List}
 use native.Mathlib.Omega.{arith}
 use lib.ListN.{length, List·getD-eq-default}
 use lib.Dec.{eqb, ltb, leb}
-use borrow.Author.Tests.{eqb-true, eqb-false, eq-eqb, ne-eqb, ltb-true, ltb-false, lt-ltb, le-ltb, leb-true, le-leb, not-true, not-false}
-use Rattle.laws.specs.Bools.{by-cases, no-way, refuted, self, nor-left, nor-right, and-left, and-right, and-both, cond-true, cond-false}
+use borrow.Author.Tests.{eqb-true, eqb-false, eq-eqb, ne-eqb, ltb-true, ltb-false, lt-ltb, leb-true, le-leb, not-true, not-false}
+use Rattle.laws.specs.Bools.{by-cases, no-way, refuted, self, and-left, and-right, and-both, cond-true, cond-false}
 use Rattle.units.specs.Units.{outside}
 use Rattle.rules.specs.State.{Where, running, ready, forMutex, onCondition, same, waits, Thread, Mutex, Timer, Rows, Sets, State, noThread, noMutex, thread, mutex, tied, at, priority, owned, setAt}
 use Rattle.rules.specs.Sound.{all, each, implies, limits, basesSound, ceilingsSound, idleSound, runnerSound, noneAbove, exists, objectsSound, anyone, ownerSound, waiterSound, mutexesSound, conditionSound, conditionsSound, rest, clauses, holds, queueClauses, sound}
