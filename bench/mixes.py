@@ -1,7 +1,8 @@
 """Checks the mixes of bench/mixes with the reference program.
 
-    mixes.py               checks each mix
-    mixes.py --write DIR   writes DIR/NAME.setup.bin and DIR/NAME.loop.bin
+    python3 -m bench.mixes               checks each mix
+    python3 -m bench.mixes --write DIR   writes DIR/NAME.setup.bin and
+                                         DIR/NAME.loop.bin
 
 A mix is NAME.setup, run once, and NAME.loop, run any number of times after
 it: one row of 8 bytes in hexadecimal on a line, `#` before a comment. Each
@@ -12,16 +13,14 @@ failed`; the exit status is 0 only if something was checked and M is 0.
 
 from __future__ import annotations
 
-import subprocess
 import sys
 import tempfile
 from pathlib import Path
-from typing import List, Sequence
+from typing import List, Tuple
 
-BENCH = Path(__file__).resolve().parent
-FOLDER = BENCH / "mixes"
-REFERENCE = BENCH.parent / "reference"
-USAGE = "usage: mixes.py [--write DIR]"
+from compare.held import TROUBLES, parser_of, run_many
+
+FOLDER = Path(__file__).resolve().parent / "mixes"
 ROW = 8
 ROUNDS = 50
 TICK_COUNT = slice(20, 24)
@@ -57,20 +56,17 @@ def run_rounds(name: str, room: Path) -> None:
     """Run the setup and 0, 1, .. rounds of the loop on the reference."""
     setup = read_rows(FOLDER / f"{name}.setup")
     loop = read_rows(FOLDER / f"{name}.loop")
-    lines: List[str] = []
+    lines: List[Tuple[str, ...]] = []
     for rounds in range(ROUNDS + 1):
         calls = room / f"{rounds}.calls"
         calls.write_bytes(setup + loop * rounds)
         end, out = calls.with_suffix(".end"), calls.with_suffix(".out")
-        lines.append(f"{calls} boot {end} {out}\n")
-    listed = room / "list"
-    listed.write_text("".join(lines))
-    script = str(REFERENCE / "run.py")
-    subprocess.run([sys.executable, script, "--many", str(listed)], check=True)
+        lines.append((str(calls), "boot", str(end), str(out)))
+    run_many(lines, room)
 
 
 def refused_line(room: Path) -> str:
-    """The first line of the longest run that is not an answer 0, or nothing."""
+    """The longest run's first line that is not an answer 0, or nothing."""
     text = (room / f"{ROUNDS}.out").read_text()
     for line in text.splitlines()[1:]:
         if line.split()[1] != "0":
@@ -91,7 +87,7 @@ def trouble_of(name: str) -> str:
         room = Path(folder)
         try:
             run_rounds(name, room)
-        except (OSError, ValueError, subprocess.CalledProcessError) as error:
+        except TROUBLES as error:
             return str(error)
         refused = refused_line(room)
         if refused:
@@ -106,30 +102,31 @@ def check() -> int:
     """Check every mix and print the count; the exit status."""
     troubles = {name: trouble_of(name) for name in names()}
     for name, trouble in troubles.items():
-        print(f"{name}: {trouble or f'{ROUNDS} rounds accepted, the state returns'}")
+        good = f"{ROUNDS} rounds accepted, the state returns"
+        print(f"{name}: {trouble or good}")
     failed = sum(1 for trouble in troubles.values() if trouble)
     passed = len(troubles) - failed
     print(f"{passed} passed, {failed} failed")
     return 0 if passed > 0 and failed == 0 else 1
 
 
-def write(folder: Path) -> int:
-    """Write the rows of every mix as bytes; the exit status."""
+def write(folder: Path) -> None:
+    """Write the rows of every mix as bytes."""
     folder.mkdir(parents=True, exist_ok=True)
     for path in sorted(FOLDER.iterdir()):
         (folder / f"{path.name}.bin").write_bytes(read_rows(path))
+
+
+def main() -> int:
+    """Read the command line; the exit status."""
+    parser = parser_of("bench.mixes", __doc__)
+    parser.add_argument("--write", metavar="DIR", type=Path)
+    folder = parser.parse_args().write
+    if folder is None:
+        return check()
+    write(folder)
     return 0
 
 
-def main(words: Sequence[str]) -> int:
-    """Read the command line; the exit status."""
-    if not words:
-        return check()
-    if len(words) == 2 and words[0] == "--write":
-        return write(Path(words[1]))
-    print(USAGE, file=sys.stderr)
-    return 2
-
-
 if __name__ == "__main__":
-    sys.exit(main(sys.argv[1:]))
+    sys.exit(main())

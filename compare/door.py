@@ -1,7 +1,7 @@
 """Tries the words of ./tehuamozo as a user would, from a folder that is not
 the repository's.
 
-    door.py [PART ..]
+    python3 -m compare.door [PART ..]
 
 PART is built, files, texts, seen or help; all of them where none is named.
 Expected texts are those of the examples, which come from the second program,
@@ -12,14 +12,13 @@ failed`; the exit status is 0 only if something ran and M is 0.
 from __future__ import annotations
 
 import sys
-from typing import Dict, List, Sequence
+from typing import Dict, List
 
-import trials_built
-import trials_files
-import trials_help
-import trials_seen
-import trials_texts
-from trying import Trial, count
+from compare import (
+    trials_built, trials_files, trials_help, trials_seen, trials_texts,
+)
+from compare.held import parser_of
+from compare.trying import Trial, count
 
 PARTS: Dict[str, List[Trial]] = {
     "built": trials_built.TRIALS,
@@ -30,12 +29,15 @@ PARTS: Dict[str, List[Trial]] = {
 }
 
 
-def main(words: Sequence[str]) -> int:
+def main() -> int:
     """Try what is asked for, and count; the exit status."""
-    if not set(words) <= set(PARTS):
-        print(f"usage: door.py [{'|'.join(PARTS)} ..]", file=sys.stderr)
-        return 2
-    parts = words or list(PARTS)
+    parser = parser_of("compare.door", __doc__)
+    parser.add_argument("parts", metavar="PART", nargs="*",
+                        help=", ".join(PARTS))
+    parts = parser.parse_args().parts or list(PARTS)
+    for part in parts:
+        if part not in PARTS:
+            parser.error(f"{part} is none of {', '.join(PARTS)}")
     trials = [trial for part in parts for trial in PARTS[part]]
     alone = trials_built.ALONE if "built" in parts else []
     passed, failed = count(alone, trials)
@@ -44,4 +46,4 @@ def main(words: Sequence[str]) -> int:
 
 
 if __name__ == "__main__":
-    sys.exit(main(sys.argv[1:]))
+    sys.exit(main())

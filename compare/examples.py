@@ -1,6 +1,6 @@
 """Holds the examples against both programs.
 
-    examples.py PROGRAM
+    python3 -m compare.examples PROGRAM
 
 PROGRAM is the linked run program, target/bin/run. For each folder of
 examples/: the rows of calls.txt are those of calls.rows, what calls.txt
@@ -16,17 +16,14 @@ import sys
 from pathlib import Path
 from typing import List, Sequence, Tuple
 
-from held import (
-    REFERENCE, TOP, Done, command_of, in_a_room, run_program, text_differs,
+from compare.held import (
+    TOP, command_of, in_a_room, parser_of, run_program, second, take_program,
+    text_differs,
 )
+from words.borrowed import Answer, header_of
+from words.streams import Trouble
+from words.texts import AT_BOOT, Calls, calls_of_text, unmet
 
-sys.path.append(str(TOP / "words"))
-
-from borrowed import Answer, header_of  # noqa: E402
-from streams import Trouble  # noqa: E402
-from texts import AT_BOOT, Calls, calls_of_text, unmet  # noqa: E402
-
-USAGE = "usage: examples.py PROGRAM"
 CHECKS = 4
 
 
@@ -35,11 +32,6 @@ def words_of(example: Path) -> List[str]:
     start = example / "start.record"
     from_record = [str(start), "-"] if start.exists() else []
     return [str(example / "calls.rows"), *from_record]
-
-
-def python(script: Path, *words: str) -> Done:
-    """Run a script of ours."""
-    return run_program([sys.executable, str(script), *words])
 
 
 def calls_in(example: Path) -> Calls:
@@ -72,7 +64,7 @@ def judge_example(command: Sequence[str], example: Path) -> int:
         "what calls.txt expects":
             "; ".join(unmet(calls, answers_of(expected))),
         "the second program":
-            text_differs(python(REFERENCE / "run.py", *words), expected),
+            text_differs(run_program(second("run", *words)), expected),
         "the program":
             text_differs(run_program([*command, *words]), expected),
     }
@@ -89,14 +81,13 @@ def compare(program: Path) -> Tuple[int, int]:
     return passed, CHECKS * len(examples) - passed
 
 
-def main(words: Sequence[str]) -> int:
+def main() -> int:
     """Read the command line; the exit status."""
-    if len(words) != 1:
-        print(USAGE, file=sys.stderr)
-        return 2
-    program = Path(words[0]).resolve()
+    parser = parser_of("compare.examples", __doc__)
+    take_program(parser)
+    program = parser.parse_args().program.resolve()
     return in_a_room(lambda room: compare(program), 1)
 
 
 if __name__ == "__main__":
-    sys.exit(main(sys.argv[1:]))
+    sys.exit(main())

@@ -1,15 +1,16 @@
-"""What the comparisons share: programs, the second program, and the count.
+"""What the comparisons share: programs, the second program, command lines,
+and the count.
 
-Imported by the programs of this folder; it is no program. A program under
-test for x86-64 runs under the kit's emulator elsewhere, as `rt` runs it. The
-second program is the one in reference/.
+Imported by the programs of this folder and by the benchmark's; it is no
+program. A program under test for x86-64 runs under the kit's emulator
+elsewhere, as `rt` runs it. The second program is the one in reference/. All
+of them run at the top of the repository.
 """
 
 from __future__ import annotations
 
+import argparse
 import os
-import platform
-import shutil
 import subprocess
 import sys
 import tempfile
@@ -21,14 +22,16 @@ from typing import (
     TypeVar,
 )
 
+from words import kit
+from words.streams import Trouble
+
 TOP = Path(__file__).resolve().parent.parent
-REFERENCE = TOP / "reference"
-LOADER = "ld-linux-x86-64.so.2"
 # Where an ELF file says for which processor it is, and x86-64's number there.
 PROCESSOR, X86_64 = slice(18, 20), b"\x3e\x00"
 # Long enough for the longest file under the emulator on a busy machine.
 SECONDS = 900
 AT_A_TIME = 2
+TROUBLES = (OSError, ValueError, Trouble, subprocess.CalledProcessError)
 
 Case = TypeVar("Case")
 # Says in one line what is wrong with a case, or nothing.
@@ -42,32 +45,18 @@ class Done(NamedTuple):
     text: bytes
 
 
-def find_toolchain() -> Path:
-    """The folder of the kit's compiler for this machine, from `rt`."""
-    rt = shutil.which("rt")
-    home = os.environ.get("RATTLE_HOME")
-    if rt is None and home is None:
-        raise OSError("rt is not found, and its emulator is needed here")
-    kit = Path(home) if home else Path(str(rt)).resolve().parent.parent
-    return kit / "on" / platform.machine() / "toolchain"
-
-
-def needs_emulator(program: Path) -> bool:
-    """Whether the program is for x86-64 and this machine is not."""
+def is_for_x86_64(program: Path) -> bool:
+    """Whether the program is for x86-64."""
     with program.open("rb") as stream:
         head = stream.read(20)
-    for_x86_64 = head.startswith(b"\x7fELF") and head[PROCESSOR] == X86_64
-    return for_x86_64 and platform.machine() != "x86_64"
+    return head.startswith(b"\x7fELF") and head[PROCESSOR] == X86_64
 
 
 def command_of(program: Path) -> List[str]:
     """What runs the program: itself, or the kit's emulator and loader."""
-    if not needs_emulator(program):
-        return [str(program)]
-    tools = find_toolchain()
-    library = tools / "lib"
-    emulator = [str(tools / "bin" / "qemu-x86_64"), str(library / LOADER)]
-    return [*emulator, "--library-path", str(library), str(program)]
+    if is_for_x86_64(program):
+        return kit.command_of(str(program))
+    return [str(program)]
 
 
 def quiet_environment() -> Dict[str, str]:
@@ -80,7 +69,7 @@ def run_program(words: Sequence[str]) -> Done:
     """Run a program to its end, or until it has taken too long."""
     try:
         done = subprocess.run(
-            words, stdin=subprocess.DEVNULL, stdout=subprocess.PIPE,
+            words, cwd=TOP, stdin=subprocess.DEVNULL, stdout=subprocess.PIPE,
             env=quiet_environment(), timeout=SECONDS, check=False,
         )
     except subprocess.TimeoutExpired:
@@ -88,18 +77,22 @@ def run_program(words: Sequence[str]) -> Done:
     return Done(done.returncode, done.stdout)
 
 
+def second(script: str, *words: str) -> List[str]:
+    """What starts a script of the second program, at the top."""
+    return [sys.executable, "-m", f"reference.{script}", *words]
+
+
 def run_second(script: str, *words: str) -> bytes:
     """Run a script of the second program, which must end well; its text."""
     done = subprocess.run(
-        [sys.executable, str(REFERENCE / script), *words],
-        stdout=subprocess.PIPE, check=True,
+        second(script, *words), cwd=TOP, stdout=subprocess.PIPE, check=True
     )
     return done.stdout
 
 
 def generate(what: str, room: Path, seed: int, count: int) -> List[Path]:
     """The first files of a seed, `calls` or `records`, in order."""
-    run_second("generate.py", what, str(seed), str(count), str(room))
+    run_second("generate", what, str(seed), str(count), str(room))
     return sorted(room.glob("*.bin"))
 
 
@@ -107,7 +100,7 @@ def run_many(lines: Iterable[Tuple[str, ...]], room: Path) -> None:
     """Run the second program on lines of CALLS, START, END and OUT."""
     listed = room / "list"
     listed.write_text("".join(" ".join(line) + "\n" for line in lines))
-    run_second("run.py", "--many", str(listed))
+    run_second("run", "--many", str(listed))
 
 
 def count_unmet(what: str, lines: Iterable[str], room: Path) -> int:
@@ -118,7 +111,7 @@ def count_unmet(what: str, lines: Iterable[str], room: Path) -> int:
     listed = room / "list"
     listed.write_text("".join(f"{line}\n" for line in lines))
     edges: Dict[str, int] = {}
-    for line in run_second("met.py", what, str(listed)).decode().splitlines():
+    for line in run_second("met", what, str(listed)).decode().splitlines():
         times, name = line.split(" ", 1)
         edges[name] = int(times)
     missing = [name for name, times in edges.items() if not times]
@@ -177,7 +170,7 @@ def in_a_room(work: Callable[[Path], Tuple[int, int]], count: int) -> int:
     with tempfile.TemporaryDirectory() as room:
         try:
             passed, failed = work(Path(room))
-        except (OSError, ValueError, subprocess.CalledProcessError) as error:
+        except TROUBLES as error:
             # The count must still be the last line.
             print(error)
             passed, failed = 0, count
@@ -185,25 +178,48 @@ def in_a_room(work: Callable[[Path], Tuple[int, int]], count: int) -> int:
     return 0 if passed > 0 and failed == 0 else 1
 
 
-def numbers_of(
-    words: Sequence[str], count: int, seed: int = 1
-) -> Optional[Tuple[int, int]]:
-    """COUNT and SEED from the end of a command line, or none if wrong."""
-    if len(words) > 2 or not all(w.isascii() and w.isdecimal() for w in words):
-        return None
-    given = [int(word) for word in words]
-    wanted = given + [count, seed][len(given):]
-    return wanted[0], wanted[1]
+def parser_of(name: str, about: Optional[str]) -> argparse.ArgumentParser:
+    """What reads the command line of a program, which is started by its name
+    at the top; wrong use ends it with 2."""
+    return argparse.ArgumentParser(
+        prog=f"python3 -m {name}", description=about,
+        formatter_class=argparse.RawDescriptionHelpFormatter,
+    )
+
+
+def natural(word: str) -> int:
+    """A number of a command line, in figures alone."""
+    if not (word.isascii() and word.isdecimal()):
+        raise argparse.ArgumentTypeError(f"{word!r} is no number")
+    return int(word)
+
+
+def take_program(parser: argparse.ArgumentParser) -> None:
+    """Have PROGRAM read."""
+    parser.add_argument(
+        "program", metavar="PROGRAM", type=Path, help="the linked program"
+    )
+
+
+def take_numbers(parser: argparse.ArgumentParser, count: int) -> None:
+    """Have COUNT and SEED read, at the end."""
+    parser.add_argument(
+        "count", metavar="COUNT", nargs="?", type=natural, default=count,
+        help=f"how many files are made, {count} unless given",
+    )
+    parser.add_argument(
+        "seed", metavar="SEED", nargs="?", type=natural, default=1,
+        help="the seed that they are made from, 1 unless given",
+    )
 
 
 def compare_program(
-    words: Sequence[str], usage: str, default: int,
+    parser: argparse.ArgumentParser, default: int,
     compare: Callable[[Path, Path, int, int], Tuple[int, int]],
 ) -> int:
     """Read PROGRAM, COUNT and SEED and compare; the exit status."""
-    numbers = numbers_of(words[1:], default)
-    if not words or numbers is None:
-        print(usage, file=sys.stderr)
-        return 2
-    program, (count, seed) = Path(words[0]).resolve(), numbers
+    take_program(parser)
+    take_numbers(parser, default)
+    asked = parser.parse_args()
+    program, count, seed = asked.program.resolve(), asked.count, asked.seed
     return in_a_room(lambda room: compare(program, room, count, seed), count)

@@ -1,15 +1,15 @@
 """Compares the plain C kernel with the second program on generated call files.
 
-    plain.py [COUNT [SEED]]     300 files and seed 1 unless given
+    python3 -m compare.plain [COUNT [SEED]]
 
-Builds bench/run.c, has the second program make COUNT call files that begin at
-boot, runs both on each, and on one in which the longest periodic timer expires
-twice, and compares their texts byte by byte. Then it builds
-bench/measure.c, and holds the checksum that this prints for each mix of the
-benchmark against the sum over the second program's answers, and so for a loop
-with refused calls, after which it must end with 1. The last line is `N passed,
-M failed`; the exit status is 0 only if something ran and M is 0, and 2 for
-wrong use.
+300 files and seed 1 unless given. Builds bench/run.c, has the second program
+make COUNT call files that begin at boot, runs both on each, and on one in
+which the longest periodic timer expires twice, and compares their texts byte
+by byte. Then it builds bench/measure.c, and holds the checksum that this
+prints for each mix of the benchmark against the sum over the second program's
+answers, and so for a loop with refused calls, after which it must end with 1.
+The last line is `N passed, M failed`; the exit status is 0 only if something
+ran and M is 0, and 2 for wrong use.
 """
 
 from __future__ import annotations
@@ -19,12 +19,12 @@ import sys
 from pathlib import Path
 from typing import List, Sequence, Tuple
 
-from held import (
-    TOP, Done, count_passed, generate, in_a_room, numbers_of, run_many,
-    run_program, text_differs,
+from bench import mixes
+from compare.held import (
+    TOP, Done, count_passed, generate, in_a_room, parser_of, run_many,
+    run_program, take_numbers, text_differs,
 )
 
-USAGE = "usage: plain.py [COUNT [SEED]]"
 FILES = 300
 FLAGS = ("-std=c11", "-O2", "-Wall", "-Wextra", "-Werror")
 ROW, ROUNDS = 8, 20
@@ -115,10 +115,7 @@ def rows_of(texts: Sequence[str]) -> bytes:
 
 def write_mixes(folder: Path) -> List[Path]:
     """Write the mixes and the loop with refused calls; the setups."""
-    script = str(TOP / "bench" / "mixes.py")
-    subprocess.run(
-        [sys.executable, script, "--write", str(folder)], check=True
-    )
+    mixes.write(folder)
     (folder / f"{REFUSED}.setup.bin").write_bytes(rows_of(REFUSED_SETUP))
     (folder / f"{REFUSED}.loop.bin").write_bytes(rows_of(REFUSED_LOOP))
     return sorted(folder.glob("*.setup.bin"))
@@ -153,15 +150,15 @@ def compare(room: Path, count: int, seed: int) -> Tuple[int, int]:
     return passed + mixes_passed, count + 1 - passed + mixes_failed
 
 
-def main(words: Sequence[str]) -> int:
+def main() -> int:
     """Read the command line; the exit status."""
-    numbers = numbers_of(words, FILES)
-    if numbers is None:
-        print(USAGE, file=sys.stderr)
-        return 2
-    count, seed = numbers
-    return in_a_room(lambda room: compare(room, count, seed), count)
+    parser = parser_of("compare.plain", __doc__)
+    take_numbers(parser, FILES)
+    asked = parser.parse_args()
+    return in_a_room(
+        lambda room: compare(room, asked.count, asked.seed), asked.count
+    )
 
 
 if __name__ == "__main__":
-    sys.exit(main(sys.argv[1:]))
+    sys.exit(main())

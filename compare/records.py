@@ -1,17 +1,18 @@
 """Compares load and save of the proved kernel with the second program.
 
-    records.py PROGRAM [COUNT [SEED]]     5,000 records and seed 1 unless given
+    python3 -m compare.records PROGRAM [COUNT [SEED]]
 
-PROGRAM is the linked program `records`. It gets a bundle: for each record a
-16-bit length, low byte first, then that many bytes. For each it has to write
-one line, `N ANSWER LENGTH`: its number from 1, load's answer, and the length
-of the save of what load handed back. With a second argument it writes those
-saves one after the other into that file. A record that loads saves to the
-same bytes, and one that is refused leaves the boot state. The answers are
-held against those of reference/check.py; 0, 1 and 15 must all be met, and so
-must the edges of the rules for timers that reference/met.py names. The last
-line is `N passed, M failed`; the exit status is 0 only if something ran and M
-is 0, and 2 for wrong use.
+5,000 records and seed 1 unless given. PROGRAM is the linked program `records`.
+It gets a bundle: for each record a 16-bit length, low byte first, then that
+many bytes. For each it has to write one line, `N ANSWER LENGTH`: its number
+from 1, load's answer, and the length of the save of what load handed back.
+With a second argument it writes those saves one after the other into that
+file. A record that loads saves to the same bytes, and one that is refused
+leaves the boot state. The answers are held against those of
+reference/check.py; 0, 1 and 15 must all be met, and so must the edges of the
+rules for timers that reference/met.py names. The last line is `N passed, M
+failed`; the exit status is 0 only if something ran and M is 0, and 2 for wrong
+use.
 """
 
 from __future__ import annotations
@@ -21,12 +22,11 @@ from collections import Counter
 from pathlib import Path
 from typing import List, NamedTuple, Sequence, Tuple
 
-from held import (
-    command_of, compare_program, count_unmet, generate, print_answers,
-    run_program, run_second, text_differs,
+from compare.held import (
+    command_of, compare_program, count_unmet, generate, parser_of,
+    print_answers, run_program, run_second, text_differs,
 )
 
-USAGE = "usage: records.py PROGRAM [COUNT [SEED]]"
 RECORDS = 5_000
 ANSWERS = (0, 1, 15)
 # Document 01 has these bytes whole.
@@ -48,7 +48,7 @@ def make_wanted(room: Path, files: Sequence[Path]) -> List[Wanted]:
     """What the second program answers to each record."""
     listed = room / "list"
     listed.write_text("".join(f"{path}\n" for path in files))
-    lines = run_second("check.py", "--list", str(listed)).decode().splitlines()
+    lines = run_second("check", "--list", str(listed)).decode().splitlines()
     wanted: List[Wanted] = []
     for path, line in zip(files, lines):
         answer = int(line.split()[1])
@@ -128,4 +128,5 @@ def compare(
 
 
 if __name__ == "__main__":
-    sys.exit(compare_program(sys.argv[1:], USAGE, RECORDS, compare))
+    reader = parser_of("compare.records", __doc__)
+    sys.exit(compare_program(reader, RECORDS, compare))

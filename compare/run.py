@@ -1,19 +1,19 @@
 """Compares the run program with the second program on generated call files.
 
-    run.py PROGRAM [COUNT [SEED]]     2,000 files and seed 1 unless given
+    python3 -m compare.run PROGRAM [COUNT [SEED]]
 
-PROGRAM is the linked run program, target/bin/run, called as PROGRAM CALLS
-START END. The second program makes COUNT call files, for a share of them with
-a start: a record, sound or damaged; the others begin at boot. Both programs
-run on each, and their texts and their last records are compared byte by byte;
-where the start is refused, neither may write a last record. How often each
-answer number was met is printed, and each that a run can give must be met; so
-must stops that give 1, 255, 256, 257 and 65,535, stops of timers that ran
-across the wrap of the tick count, the edges of the rules for timers that
-reference/met.py names, refused starts, and files of more rows than the program
-reads at a time, from boot and from records: a small COUNT fails by that. The
-last line is `N passed, M failed`; the exit status is 0 only if something ran
-and M is 0, and 2 for wrong use.
+2,000 files and seed 1 unless given. PROGRAM is the linked run program,
+target/bin/run, called as PROGRAM CALLS START END. The second program makes
+COUNT call files, for a share of them with a start: a record, sound or damaged;
+the others begin at boot. Both programs run on each, and their texts and their
+last records are compared byte by byte; where the start is refused, neither may
+write a last record. How often each answer number was met is printed, and each
+that a run can give must be met; so must stops that give 1, 255, 256, 257 and
+65,535, stops of timers that ran across the wrap of the tick count, the edges
+of the rules for timers that reference/met.py names, refused starts, and files
+of more rows than the program reads at a time, from boot and from records: a
+small COUNT fails by that. The last line is `N passed, M failed`; the exit
+status is 0 only if something ran and M is 0, and 2 for wrong use.
 """
 
 from __future__ import annotations
@@ -24,12 +24,11 @@ from pathlib import Path
 from typing import Counter as CounterOf
 from typing import Dict, Iterator, List, NamedTuple, Sequence, Tuple
 
-from held import (
+from compare.held import (
     answers_in, command_of, compare_program, count_passed, count_unmet,
-    generate, print_answers, run_many, run_program, text_differs,
+    generate, parser_of, print_answers, run_many, run_program, text_differs,
 )
 
-USAGE = "usage: run.py PROGRAM [COUNT [SEED]]"
 FILES = 2_000
 # 16 is about a buffer lent to save; a run has a buffer that is long enough.
 CANNOT_BE_MET = 16
@@ -215,4 +214,5 @@ def compare(
 
 
 if __name__ == "__main__":
-    sys.exit(compare_program(sys.argv[1:], USAGE, FILES, compare))
+    reader = parser_of("compare.run", __doc__)
+    sys.exit(compare_program(reader, FILES, compare))

@@ -1,6 +1,6 @@
 """Tests of what the comparisons count, on small cases worked out by hand.
 
-    test_counting.py
+    python3 -m compare.test_counting
 
 A comparison that counts wrongly could call a case met that was not. Prints the
 result of each test and ends with one line, `N passed, M failed`. The exit
@@ -17,14 +17,11 @@ import unittest
 from pathlib import Path
 from typing import List, Sequence
 
-from held import TOP, Done, count_unmet
-from plain import rows_of, sum_differs, weight
-from records import BOOT
-from run import GIVEN_BY_STOPS, Run, Stop, count_unmet_stops, stops_in
-
-sys.path.append(str(TOP / "words"))
-
-from testing import run_tests  # noqa: E402
+from compare.held import Done, count_unmet
+from compare.plain import rows_of, sum_differs, weight
+from compare.records import BOOT
+from compare.run import GIVEN_BY_STOPS, Run, Stop, count_unmet_stops, stops_in
+from words.testing import run_tests
 
 LAST = 4_294_967_295
 TICK, STOP_0, STOP_1 = "0D", "0C", "0C 01"

@@ -20,11 +20,12 @@ import time
 from pathlib import Path
 from typing import Callable, Dict, Iterator, List, Set, Tuple
 
-from held import find_toolchain
-from trying import (
-    BOOT, RUN, RUN_TEXT, SECONDS, TOP, Done, Terminal, Trial, comes_true,
+from compare.held import TOP
+from compare.trying import (
+    BOOT, RUN, RUN_TEXT, SECONDS, Done, Terminal, Trial, comes_true,
     door, hear_signals, not_done, one_line, put,
 )
+from words.kit import kit_folder, machines_of
 
 # A prover that takes a while, so that two words meet. Like the real one it
 # leaves a program or library that it thinks it built as it is.
@@ -87,9 +88,10 @@ class Copy:
         place.chmod(0o755)
         (self.room / "kit" / "KIT-ID").write_text("a stand-in\n")
         # Off x86-64 the kit's emulator runs the program.
-        machines = self.room / "kit" / "on"
+        machines, kit = machines_of(self.room / "kit"), kit_folder()
+        assert kit is not None
         if not machines.is_symlink():
-            machines.symlink_to(find_toolchain().parent.parent)
+            machines.symlink_to(machines_of(kit))
 
     def environment(self) -> Dict[str, str]:
         """With the stand-in before the prover."""
@@ -206,9 +208,9 @@ def never_another_trace(copy: Copy) -> bool:
 
 def never_another_library(copy: Copy) -> bool:
     """And for the library that bench links."""
-    words = ("-c", "import sys; sys.path.insert(0, 'words'); import built; "
-             "print(built.library('tally').read_text())")
-    library = copy.top / "target" / "staticlib" / "libtally.a"
+    words = ("-c", "from words import built; "
+             "print(built.library('run_tally').read_text())")
+    library = copy.top / "target" / "staticlib" / "librun_tally.a"
     first = copy.python(*words)
     second = copy.python(*words)
     library.write_text("not the proved one")
@@ -237,7 +239,7 @@ def other_sources(copy: Copy) -> bool:
         "crates.txt", "target/door/run",
     ]
     for times, name in enumerate(changed, 2):
-        copy.edit(name, "runs: \n" if name == "crates.txt" else "\n")
+        copy.edit(name, "run_pieces: \n" if name == "crates.txt" else "\n")
         if not copy.runs() or len(copy.started()) != times:
             return False
     stamp = (copy.top / "target" / "door" / "run").read_text()
@@ -251,13 +253,13 @@ def only_what_counts(copy: Copy) -> bool:
     if not copy.runs():
         return False
     copy.edit("crates/rules/must-fail/more.edit")
-    copy.edit("crates/tally/src/lib.rt")
+    copy.edit("crates/run_tally/src/lib.rt")
     return copy.runs() and len(copy.started()) == 1
 
 
 def gate_stamps(copy: Copy) -> bool:
     """What the gate proves and builds is stamped, and not built again."""
-    stamp = ("words/stamp.py", "run", "--")
+    stamp = ("-m", "words.stamp", "--programs", "run", "--")
     done = copy.python(*stamp, "rt", "check", "run")
     return done.status == 0 and copy.runs() and len(copy.started()) == 1
 
@@ -266,7 +268,7 @@ def gate_stamps_what_it_proved(copy: Copy) -> bool:
     """Sources that change while the gate proves are not stamped, nor is what
     it refuses; the exit status tells."""
     edit = "rt check run && echo >>crates/run/src/main.rt"
-    stamp = ("words/stamp.py", "run", "--", "sh", "-c")
+    stamp = ("-m", "words.stamp", "--programs", "run", "--", "sh", "-c")
     changed = copy.python(*stamp, edit)
     refused = copy.python(*stamp, "rt check run; exit 1")
     no_stamp = not (copy.top / "target" / "door" / "run").exists()
@@ -276,12 +278,25 @@ def gate_stamps_what_it_proved(copy: Copy) -> bool:
     )
 
 
+def part_builds(copy: Copy) -> bool:
+    """What a part of the gate needs is built once, and served to words; what
+    is not proved is said, and the exit status tells."""
+    words = ("-m", "words.build", "run")
+    done = [copy.python(*words), copy.python(*words)]
+    right = [Done(0, b"run is built from these sources\n", b"")] * 2
+    served = done == right and copy.runs() and len(copy.started()) == 1
+    copy.edit("crates/run/src/main.rt", "x\n")
+    copy.put_prover(REFUSES)
+    refused = copy.python(*words)
+    return served and (refused.status, refused.text) == (2, b"")
+
+
 def gate_takes_lock(copy: Copy) -> bool:
     """The gate proves under the lock that words build under."""
     at_work = copy.room / "at_work"
     waits = f"touch '{at_work}'; while [ -e '{at_work}' ]; do sleep 0.1; done"
     stamp = subprocess.Popen(
-        [sys.executable, "-B", "words/stamp.py", "--", "sh", "-c", waits],
+        [sys.executable, "-B", "-m", "words.stamp", "--", "sh", "-c", waits],
         cwd=copy.top,
     )
     held = comes_true(at_work.exists) and not can_lock(copy.top)
@@ -577,6 +592,7 @@ TRIALS: List[Trial] = [
     ("other files that are no sources", in_copy(only_what_counts)),
     ("the gate's stamp", in_copy(gate_stamps)),
     ("the gate's stamp on other sources", in_copy(gate_stamps_what_it_proved)),
+    ("programs for a part of the gate", in_copy(part_builds)),
     ("the gate's lock", in_copy(gate_takes_lock)),
     ("a tree without a kit", in_copy(no_kit)),
     ("another kit", in_copy(other_kit)),

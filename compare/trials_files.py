@@ -14,7 +14,7 @@ import threading
 from pathlib import Path
 from typing import Callable, List, Sequence
 
-from trying import (
+from compare.trying import (
     BOOT, DOOR, HEADING, RUN, RUN_TEXT, SECONDS, Done, Trial, begin, door,
     example, into, not_done, one_line, put, second_text,
 )

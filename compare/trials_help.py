@@ -11,12 +11,14 @@ import re
 import select
 import signal
 import subprocess
+import sys
 import time
 from pathlib import Path
 from typing import Callable, List, Tuple
 
-from trying import (
-    RUN, SECONDS, TOP, Done, Terminal, Trial, begin, door, one_line, put,
+from compare.held import TOP
+from compare.trying import (
+    RUN, SECONDS, Done, Terminal, Trial, begin, door, one_line, put,
 )
 
 TRUST = TOP / "docs" / "TRUST.md"
@@ -26,6 +28,50 @@ WORDS = (
     "run", "explain", "timeline", "record", "rows", "show", "axioms", "test",
     "bench", "help",
 )
+PARTS = ("proofs", "edits", "comparisons", "words")
+# The steps of the gate in order: the parts that have each, and its command. A
+# step that is taken out of the gate, or made to do nothing, is missed here.
+EVERY = "whole proofs edits comparisons words"
+STEPS = (
+    (EVERY, "command -v rt"),
+    (EVERY, "need python3 python3"),
+    ("whole comparisons words", "need cc gcc"),
+    ("whole words", "need shellcheck shellcheck"),
+    ("whole words", "need mypy mypy"),
+    ("whole words", "need pycodestyle pycodestyle"),
+    ("whole proofs", "rt fmt --check"),
+    ("whole words", "shellcheck tehuamozo .ci/run bench/build"),
+    ("whole words", "mypy --strict --cache-dir $room/mypy words compare "
+     "reference bench docs examples/wrap/make_start.py"),
+    ("whole words", "pycodestyle words compare reference bench docs "
+     "examples"),
+    ("whole", "stamped rt ci"),
+    ("proofs", "stamped sh -c 'rm -rf target && exec rt check'"),
+    ("edits", "locked rt must-fail"),
+    ("comparisons words", "python3 -B -m words.build run trace records "
+     "wheel_work"),
+    ("whole edits", "python3 -m docs.test_first_errors"),
+    ("whole edits", "python3 -m docs.first_errors"),
+    ("whole comparisons", "python3 -m compare.test_counting"),
+    ("whole comparisons", "python3 -m compare.run target/bin/run"),
+    ("whole comparisons", "python3 -m reference.test_reference"),
+    ("whole comparisons", "python3 -m compare.records target/bin/records"),
+    ("whole comparisons", "python3 -m compare.examples target/bin/run"),
+    ("whole words", "python3 -m words.test_door"),
+    ("whole words", "python3 -m words.test_texts"),
+    ("whole words", "python3 -m words.test_timeline"),
+    ("whole words", "python3 -m words.test_tables"),
+    ("whole words", "python3 -m compare.door"),
+    ("whole proofs", "python3 -m docs.test_shapes"),
+    ("whole proofs", "python3 -m docs.test_pages"),
+    ("whole proofs", "python3 -m docs.check_promises"),
+    ("whole proofs", "python3 -m docs.reading"),
+    ("whole proofs", "python3 -m docs.needs"),
+    ("whole comparisons", "python3 -m compare.plain"),
+    ("whole comparisons", "python3 -m bench.mixes"),
+)
+# All that the steps of the gate start.
+STARTED = ("rt", "python3", "cc", "shellcheck", "mypy", "pycodestyle")
 # Document 01's calls with the fields it names.
 CALLS = (
     "start", "create thread BASE", "create mutex CEILING",
@@ -331,6 +377,126 @@ def bench_tells(room: Path) -> bool:
     return re.search(rb"tehuamozo: measuring \w+", shown) is not None
 
 
+def own_modules(room: Path) -> bool:
+    """Python files in the user's folder are none of the door's, whatever
+    their names."""
+    wanted = door(room, "help", "record")
+    for name in ("os", "re", "words", "reference", "typing"):
+        put(room, f"{name}.py", b"raise SystemExit(3)\n")
+    return wanted.status == 0 and door(room, "help", "record") == wanted
+
+
+def programs_refuse(room: Path) -> bool:
+    """Each program besides the door says how it is used, and ends with 2,
+    where it is used wrongly, and with 0 where that is asked."""
+    many = [
+        ("compare.run",), ("compare.run", "program", "x"),
+        ("compare.run", "program", "1", "-1"),
+        ("compare.records", "program", "1", "2", "3"),
+        ("compare.examples",), ("compare.examples", "one", "two"),
+        ("compare.plain", "1.5"), ("compare.door", "windows"),
+        ("bench.mixes", "--write"), ("bench.mixes", "more"),
+        ("bench.ratio",), ("bench.ratio", "library", "few"),
+        ("docs.check_promises", "--tables"), ("docs.first_errors", "--all"),
+        ("docs.reading", "--all"), ("docs.needs", "rules"),
+        ("words.stamp",), ("words.stamp", "--programs", "run"),
+        ("words.build",),
+    ]
+    for module, *words in many:
+        done, helped = (
+            subprocess.run(
+                [sys.executable, "-B", "-m", module, *each], cwd=TOP,
+                capture_output=True, check=False, timeout=SECONDS,
+            )
+            for each in (words, ["--help"])
+        )
+        usage = f"usage: python3 -m {module} ".encode()
+        refused = done.returncode == 2 and done.stdout == b""
+        if not refused or not done.stderr.startswith(usage):
+            print(module, words, done)
+            return False
+        if helped.returncode or not helped.stdout.startswith(usage):
+            print(module, helped)
+            return False
+    return os.listdir(room) == []
+
+
+def steps_of(room: Path, *part: str) -> List[str]:
+    """The steps of a part of the gate, or of the whole, by their names."""
+    done = door(room, "test", "--list", *part)
+    names = done.text.decode().splitlines()
+    right = done.status == 0 and done.said == b""
+    return names if right and len(set(names)) == len(names) else []
+
+
+def lists_steps(room: Path) -> bool:
+    """The parts of the gate are together the whole, each in its order: where
+    the whole has one step that proves, tries the edits and builds, a part has
+    its share of that."""
+    whole = steps_of(room)
+    parts = [steps_of(room, part) for part in PARTS]
+    of_parts = {name for part in parts for name in part}
+    in_order = all(
+        [name for name in whole if name in part]
+        == [name for name in part if name in whole] for part in parts
+    )
+    return all(parts) and in_order and (
+        set(whole) - of_parts == {"proofs, must-fail edits and programs"}
+    ) and of_parts - set(whole) == {
+        "proofs from nothing, and programs", "must-fail edits",
+        "the programs are built",
+    }
+
+
+def holds_steps(room: Path) -> bool:
+    """The gate has these steps, each in these parts and by this command."""
+    script = (TOP / "tehuamozo").read_text("utf-8")
+    lines = re.findall(
+        r'^    step "?([\w$ ]+?)"? (?:single|counted|shown) "[^"]+" (.*)$',
+        script, re.MULTILINE
+    )
+    found = tuple(
+        (parts.replace("$every", EVERY), command.replace('"', ""))
+        for parts, command in lines
+    )
+    return found == STEPS and script.count("\n    step ") == len(STEPS)
+
+
+def does_steps(count: bytes) -> Callable[[Path], bool]:
+    """A part, or the whole, does the steps that are listed, each once, and
+    ends in their count: with stand-ins, which print a count and end by it,
+    for all that the steps start."""
+
+    def tried(room: Path) -> bool:
+        good = count.startswith(b"1")
+        for name in STARTED:
+            text = b"#!/bin/sh\necho '%s'\nexit %d\n" % (count, not good)
+            put(room, name, text)
+            (room / name).chmod(0o755)
+        path = f"{room}:{os.environ['PATH']}"
+        environment = dict(os.environ, PATH=path)
+        return all(
+            did_steps(door(room, "test", *part, environment=environment),
+                      steps_of(room, *part), good)
+            for part in [(), *((each,) for each in PARTS)]
+        )
+
+    return tried
+
+
+def did_steps(done: Done, names: List[str], good: bool) -> bool:
+    """Whether the gate did these steps, and all but those that look whether
+    something is here passed or failed alike."""
+    lines = done.text.decode().splitlines()
+    heads = [line[3:] for line in lines if line.startswith("== ")]
+    here = sum(name.endswith(" is here") for name in names)
+    passed = len(names) if good else here
+    count = f"{passed} passed, {len(names) - passed} failed"
+    did = [re.sub(": (passed|failed)$", "", head) for head in heads]
+    ended = done.status == (0 if good else 1) and lines[-1] == count
+    return ended and did == names
+
+
 TRIALS: List[Trial] = [
     ("help", helps),
     ("help on a word", helps_on_word),
@@ -346,7 +512,25 @@ TRIALS: List[Trial] = [
     ("rows with three files", refuses("not 3", "rows", "a", "b", "c")),
     ("rows with -o alone", refuses("-o takes one", "rows", "calls", "-o")),
     ("show without a file", refuses("not 0", "show")),
-    ("test with a file", refuses("not 1", "test", "calls")),
+    ("test of another part", refuses(
+        "test has no part calls; the parts are proofs, edits, comparisons, "
+        "words", "test", "calls")),
+    ("test of an unprintable part", refuses(
+        r"test has no part a\x07b", "test", "a\ab")),
+    ("test of a part without a name", refuses("no part ", "test", "")),
+    ("test of two parts", refuses(
+        "test takes one part, not 2", "test", "proofs", "edits")),
+    ("test of two parts in one word", refuses(
+        "test has no part proofs edits", "test", "proofs edits")),
+    ("test with an option", refuses("no option -x", "test", "-x")),
+    ("a list of another part", refuses(
+        "test has no part calls", "test", "--list", "calls")),
+    ("Python files of the user's", own_modules),
+    ("programs that are used wrongly", programs_refuse),
+    ("the steps of the gate", lists_steps),
+    ("the commands of the gate", holds_steps),
+    ("a part of the gate does its steps", does_steps(b"1 passed, 0 failed")),
+    ("a part of the gate that fails", does_steps(b"0 passed, 1 failed")),
     ("a timeline without its file", refuses("-o", "timeline", "calls")),
     ("a timeline of other ticks", refuses(
         "FIRST-LAST", "timeline", "calls", "--ticks", "4", "-o", "a.svg")),

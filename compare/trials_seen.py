@@ -13,7 +13,7 @@ from pathlib import Path
 from typing import List, Sequence, Tuple
 from xml.etree import ElementTree
 
-from trying import (
+from compare.trying import (
     BOOT, RUN_IN_WORDS, Done, Trial, door, example, not_done, put,
 )
 
@@ -228,6 +228,21 @@ def names_rule(room: Path) -> bool:
     )
 
 
+def says_who_names(room: Path) -> bool:
+    """That a rule is named by the program of the tests is said beside it and
+    in the help, and not of a record that is taken."""
+    who = b"named by the second program, which is tested and not proved"
+    refused = [
+        door(room, "record", put(room, "refused", data)).text
+        for data in (ABOVE, BOOT[:27])
+    ]
+    taken = door(room, "record", put(room, "boot", BOOT)).text
+    helped = b" ".join(door(room, "help", "record").text.split())
+    return who not in taken and all(
+        text.count(who) == 1 for text in [*refused, helped]
+    )
+
+
 def names_form(room: Path) -> bool:
     """So it does where the form is wrong."""
     done = door(room, "record", put(room, "short", BOOT[:27]))
@@ -249,5 +264,6 @@ TRIALS: List[Trial] = [
     ("a timeline with another ending", other_ending),
     ("waits and rings", names_waits),
     ("a broken rule", names_rule),
+    ("who names a broken rule", says_who_names),
     ("a record of wrong form", names_form),
 ]

@@ -12,8 +12,9 @@ from pathlib import Path
 from typing import Callable, List, Sequence
 from xml.etree import ElementTree
 
-from trying import (
-    BOOT, DOOR, HEADING, RUN, RUN_IN_WORDS, RUN_TEXT, SECONDS, TOP, Done,
+from compare.held import TOP
+from compare.trying import (
+    BOOT, DOOR, HEADING, RUN, RUN_IN_WORDS, RUN_TEXT, SECONDS, Done,
     Trial, door, example, not_done, one_line, put, second_text,
 )
 

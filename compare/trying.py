@@ -15,7 +15,6 @@ import pty
 import select
 import signal
 import subprocess
-import sys
 import tempfile
 import time
 from concurrent.futures import ProcessPoolExecutor
@@ -23,7 +22,8 @@ from multiprocessing import get_context
 from pathlib import Path
 from typing import Callable, Dict, List, NamedTuple, Optional, Tuple
 
-TOP = Path(__file__).resolve().parent.parent
+from compare.held import TOP, run_second
+
 DOOR = TOP / "tehuamozo"
 # Long enough for any wait here, on a busy machine and under the emulator.
 SECONDS = 600
@@ -103,11 +103,8 @@ def not_done(done: Done, *parts: str) -> bool:
 
 
 def second_text(*words: str) -> bytes:
-    """What the second program prints."""
-    script = str(TOP / "reference" / "run.py")
-    return subprocess.run(
-        [sys.executable, script, *words], capture_output=True, check=True
-    ).stdout
+    """What the second program prints; paths are whole."""
+    return run_second("run", *words)
 
 
 def hear_signals() -> None:

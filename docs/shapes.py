@@ -1,19 +1,27 @@
-"""Reads the shape of a promise: which results it determines, and by which theorem.
+"""Reads the shape of a promise: which results it determines, and by which
+theorem.
 
-A function's results are what it returns and each buffer that it is lent to change. A promise is a list of clauses. A clause is taken apart at its outermost
-signs: a pair of facts is each of them, a fact for every value of a variable is that fact, and a fact under a condition, or of some value that is not named
-further, determines nothing. What is left is an equation, an equivalence or a relation. It determines the results that its left side, or their places in the
-relation, name whole, if nothing else of it names one.
+A function's results are what it returns and each buffer that it is lent to
+change. A promise is a list of clauses. A clause is taken apart at its
+outermost signs: a pair of facts is each of them, a fact for every value of a
+variable is that fact, and a fact under a condition, or of some value that is
+not named further, determines nothing. What is left is an equation, an
+equivalence or a relation. It determines the results that its left side, or
+their places in the relation, name whole, if nothing else of it names one.
+Imported by the checks; it is no program.
 """
 
 from __future__ import annotations
 
 import re
 from dataclasses import dataclass
-from typing import Dict, FrozenSet, Iterator, List, Mapping, Optional, Sequence, Set, Tuple
+from typing import (
+    Dict, FrozenSet, Iterator, List, Mapping, Optional, Sequence, Set, Tuple,
+)
 
 RETURNED = "r"
-# A relation that is a record of its own: which of its arguments are results, counted from 0, and the theorem that it allows one of each only.
+# A relation that is a record of its own: which of its arguments are results,
+# counted from 0, and the theorem that it allows one of each only.
 RELATIONS: Mapping[str, Tuple[Tuple[int, ...], str]] = {
     "Steps": ((2,), "steps-once"),
     "Saves": ((2, 3), "saves-once"),
@@ -22,15 +30,20 @@ RELATIONS: Mapping[str, Tuple[Tuple[int, ...], str]] = {
 }
 # Types that have values, so that what holds for every value of one holds.
 INHABITED = ("Clock", "Counts", "State")
-# An array that was lent, or is returned, read as what it stands for, and the theorem that one array does so.
-READINGS: Mapping[str, str] = {"schedulerIn": "bytes-once", "signalledIn": "signalled-once", "steppedIn": "stepped-once"}
+# An array that was lent, or is returned, read as what it stands for, and the
+# theorem that one array does so.
+READINGS: Mapping[str, str] = {
+    "schedulerIn": "bytes-once", "signalledIn": "signalled-once",
+    "steppedIn": "stepped-once",
+}
 # A name for several values as one, which determines each of them.
 TOGETHER = ("at",)
 
 
 @dataclass(frozen=True)
 class Function:
-    """A public function: its name, what it returns, the buffers it may change, and the clauses of its promise."""
+    """A public function: its name, what it returns, the buffers it may
+    change, and the clauses of its promise."""
 
     name: str
     returns: str
@@ -39,12 +52,14 @@ class Function:
 
     def results(self) -> FrozenSet[str]:
         """What the promise has to determine."""
-        return frozenset(self.lent) | (frozenset([RETURNED]) if self.returns else frozenset())
+        returned = [RETURNED] if self.returns else []
+        return frozenset([*self.lent, *returned])
 
 
 @dataclass(frozen=True)
 class Determined:
-    """Results that a fact determines, whole or a field of what is returned, and the theorem by which."""
+    """Results that a fact determines, whole or a field of what is returned,
+    and the theorem by which."""
 
     results: FrozenSet[str]
     theorem: str
@@ -80,13 +95,15 @@ def closing(text: str) -> int:
 
 
 def is_variable(part: str) -> bool:
-    """Whether what stands before an arrow is a variable of a type that has values, and no condition."""
+    """Whether what stands before an arrow is a variable of a type that has
+    values, and no condition."""
     found = re.fullmatch(r"\((?:\w+ )+: (\w+)\)", part.strip())
     return found is not None and found.group(1) in INHABITED
 
 
 def is_some(part: str) -> bool:
-    """Whether a part of a pair says that there is some value, for which the rest then holds."""
+    """Whether a part of a pair says that there is some value, for which the
+    rest then holds."""
     return re.fullmatch(r"\((?:\w+ )+: .*\)", part.strip()) is not None
 
 
@@ -100,7 +117,7 @@ def facts(clause: str) -> Iterator[str]:
         return
     parts = split_top(text, "×")
     if len(parts) > 1:
-        for part in parts if not any(is_some(part) for part in parts) else []:
+        for part in [] if any(map(is_some, parts)) else parts:
             yield from facts(part)
         return
     yield text
@@ -108,16 +125,18 @@ def facts(clause: str) -> Iterator[str]:
 
 def mentions(text: str, function: Function) -> bool:
     """Whether a text names a result."""
-    return re.search(r"\br\b", text) is not None or any(re.search(rf"\b{lent} \.exit\b", text) for lent in function.lent)
+    named = [r"\br\b", *(rf"\b{lent} \.exit\b" for lent in function.lent)]
+    return any(re.search(pattern, text) for pattern in named)
 
 
 def result_named(text: str, function: Function) -> Optional[str]:
-    """The one result, or field of what is returned, that a text names and is."""
+    """The one result, or field of what is returned, that a text is."""
     text = bare(text)
     if re.fullmatch(r"r( \.\w+)*", text):
         return text
     found = re.fullmatch(r"now \((\w+) \.exit\)", text)
-    return found.group(1) if found and found.group(1) in function.lent else None
+    lent = found.group(1) if found else None
+    return lent if lent in function.lent else None
 
 
 def arguments(text: str) -> List[str]:
@@ -135,7 +154,9 @@ def split_words(text: str) -> Iterator[str]:
             start = at + 1
 
 
-def by_equation(left: str, right: str, function: Function) -> Optional[Determined]:
+def by_equation(
+    left: str, right: str, function: Function
+) -> Optional[Determined]:
     """What an equation determines."""
     if mentions(right, function):
         return None
@@ -152,13 +173,20 @@ def by_equation(left: str, right: str, function: Function) -> Optional[Determine
     return None
 
 
-def by_relation(words: Sequence[str], function: Function) -> Optional[Determined]:
-    """What a relation determines: the results at its places for results, if each is one and none stands elsewhere."""
+def by_relation(
+    words: Sequence[str], function: Function
+) -> Optional[Determined]:
+    """What a relation determines: the results at its places for results, if
+    each is one and none stands elsewhere."""
     places, theorem = RELATIONS[words[0]]
-    named = [result_named(word, function) for at, word in enumerate(words[1:]) if at in places]
-    others = [word for at, word in enumerate(words[1:]) if at not in places]
+    placed = list(enumerate(words[1:]))
+    named = [
+        result_named(word, function) for at, word in placed if at in places
+    ]
+    others = [word for at, word in placed if at not in places]
     results = frozenset(name for name in named if name is not None)
-    if len(results) < len(places) or any(mentions(word, function) for word in others):
+    is_elsewhere = any(mentions(word, function) for word in others)
+    if len(results) < len(places) or is_elsewhere:
         return None
     return Determined(results, theorem)
 
@@ -166,25 +194,35 @@ def by_relation(words: Sequence[str], function: Function) -> Optional[Determined
 def determined(fact: str, function: Function) -> Optional[Determined]:
     """What one fact determines."""
     sides = split_top(fact, "↔")
-    if len(sides) == 2 and bare(sides[0]) == "r ≡ true" and not mentions(sides[1], function):
-        return Determined(frozenset([RETURNED]), "exactly-once")
+    if len(sides) == 2 and bare(sides[0]) == "r ≡ true":
+        if not mentions(sides[1], function):
+            return Determined(frozenset([RETURNED]), "exactly-once")
     sides = split_top(fact, "≡")
     if len(sides) == 2:
         return by_equation(sides[0], sides[1], function)
     words = arguments(fact)
-    return by_relation(words, function) if words and words[0] in RELATIONS else None
+    if not words or words[0] not in RELATIONS:
+        return None
+    return by_relation(words, function)
 
 
-def is_covered(result: str, known: Set[str], function: Function, fields: Mapping[str, Sequence[str]]) -> bool:
+def is_covered(
+    result: str, known: Set[str], function: Function,
+    fields: Mapping[str, Sequence[str]],
+) -> bool:
     """Whether a result is determined, whole or field by field."""
     if result in known:
         return True
     parts = fields.get(function.returns, ()) if result == RETURNED else ()
-    return bool(parts) and all(f"{RETURNED} .{part}" in known for part in parts)
+    named = {f"{RETURNED} .{part}" for part in parts}
+    return bool(named) and named <= known
 
 
-def one_result(function: Function, fields: Mapping[str, Sequence[str]]) -> str:
-    """The theorems by which any two results that the promise allows are equal; nothing where it leaves some result open."""
+def one_result(
+    function: Function, fields: Mapping[str, Sequence[str]]
+) -> str:
+    """The theorems by which any two results that the promise allows are
+    equal; nothing where it leaves some result open."""
     known: Set[str] = set()
     theorems: Dict[str, None] = {}
     for clause in function.clauses:
@@ -193,6 +231,7 @@ def one_result(function: Function, fields: Mapping[str, Sequence[str]]) -> str:
             if found is not None and not found.results <= known:
                 known |= found.results
                 theorems[f"`{found.theorem}`"] = None
-    if all(is_covered(result, known, function, fields) for result in function.results()):
+    results = function.results()
+    if all(is_covered(each, known, function, fields) for each in results):
         return ", ".join(theorems)
     return ""

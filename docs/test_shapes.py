@@ -1,8 +1,10 @@
-"""Tries the reader of promises on promises that leave a result open, and on some that do not.
+"""Tries the reader of promises on promises that leave a result open, and on
+some that do not.
 
-    test_shapes.py
+    python3 -m docs.test_shapes
 
-Each is a promise that a reader could take for a whole one by its signs. The last line is `N passed, M failed`; the exit status is 0 only if something ran
+Each is a promise that a reader could take for a whole one by its signs. The
+last line is `N passed, M failed`; the exit status is 0 only if something ran
 and M is 0.
 """
 
@@ -11,10 +13,11 @@ from __future__ import annotations
 import sys
 from typing import Sequence, Tuple
 
-from shapes import Function, one_result
+from docs.shapes import Function, one_result
 
 FIELDS = {"Pair": ["first", "second"]}
-# What is returned, what is lent, the promise, and the theorems that it is whole by; none where it leaves something open.
+# What is returned, what is lent, the promise, and the theorems that it is
+# whole by; none where it leaves something open.
 CASES: Sequence[Tuple[str, Tuple[str, ...], Tuple[str, ...], str]] = (
     ("u8", (), ("r ≡ model x",), "`equation-once`"),
     ("u8", (), ("r ≡ r",), ""),
@@ -27,18 +30,27 @@ CASES: Sequence[Tuple[str, Tuple[str, ...], Tuple[str, ...], str]] = (
     ("bool", (), ("(r ≡ true) ↔ Right r",), ""),
     ("bool", (), ("(x ≡ true) ↔ (r ≡ true)",), ""),
     ("Pair", (), ("r .first ≡ one x",), ""),
-    ("Pair", (), ("r .first ≡ one x", "r .second ≡ other x"), "`equation-once`"),
-    ("Pair", (), ("(r .first ≡ one x) × (r .second ≡ other x)",), "`equation-once`"),
+    ("Pair", (), ("r .first ≡ one x", "r .second ≡ other x"),
+     "`equation-once`"),
+    ("Pair", (), ("(r .first ≡ one x) × (r .second ≡ other x)",),
+     "`equation-once`"),
     ("u8", ("cells",), ("r ≡ model x",), ""),
-    ("", ("cells",), ("schedulerIn (now (cells .exit)) ≡ model x",), "`bytes-once`"),
+    ("", ("cells",), ("schedulerIn (now (cells .exit)) ≡ model x",),
+     "`bytes-once`"),
     ("", ("cells",), ("length (now (cells .exit)) ≡ 3",), ""),
     ("", ("cells",), ("now (cells .exit) ≡ now (cells .exit)",), ""),
-    ("u8", ("cells",), ("(r ≡ model x) × (now (cells .exit) ≡ other x)",), "`equation-once`"),
-    ("u8", ("cells",), ("signalledIn (now (cells .exit)) r ≡ model x",), "`signalled-once`"),
+    ("u8", ("cells",), ("(r ≡ model x) × (now (cells .exit) ≡ other x)",),
+     "`equation-once`"),
+    ("u8", ("cells",), ("signalledIn (now (cells .exit)) r ≡ model x",),
+     "`signalled-once`"),
     ("Stepped", (), ("Steps self (Taken Start) r",), "`steps-once`"),
-    ("Saved", ("buffer",), ("Saves kernel (now (buffer .entry)) r (now (buffer .exit))",), "`saves-once`"),
-    ("Saved", ("buffer",), ("Saves kernel (now (buffer .entry)) r (now (buffer .entry))",), ""),
-    ("Saved", ("buffer",), ("Saves kernel (now (buffer .exit)) r (now (buffer .entry))",), ""),
+    ("Saved", ("buffer",),
+     ("Saves kernel (now (buffer .entry)) r (now (buffer .exit))",),
+     "`saves-once`"),
+    ("Saved", ("buffer",),
+     ("Saves kernel (now (buffer .entry)) r (now (buffer .entry))",), ""),
+    ("Saved", ("buffer",),
+     ("Saves kernel (now (buffer .exit)) r (now (buffer .entry))",), ""),
     ("Stepped", (), ("Steps r (Taken Start) self",), ""),
     ("Stepped", (), ("Steps r (Taken Start) r",), ""),
     ("u8", (), ("(x : ℕ) × (r ≡ model x)",), ""),

@@ -9,11 +9,11 @@ from __future__ import annotations
 
 from typing import Callable, List, Optional, Protocol, Tuple
 
-from book import Book
-from chance import Chance
-from edges import ACCEPTED_DELAYS, REFUSED_DELAYS
-from rows import NAMED, make_row
-from words import (
+from reference.book import Book
+from reference.chance import Chance
+from reference.edges import ACCEPTED_DELAYS, REFUSED_DELAYS
+from reference.rows import NAMED, make_row
+from reference.words import (
     ACQUIRE, BROADCAST, CONDITION_VARIABLES, CREATE_CONDITION_VARIABLE,
     CREATE_MUTEX, CREATE_THREAD, CREATE_TIMER, IDLE, MUTEXES, NONE, RELEASE,
     SIGNAL, START, START_TIMER, STOP_TIMER, THREADS, TICK, TIMERS,

@@ -12,7 +12,7 @@ from __future__ import annotations
 from dataclasses import dataclass, field
 from typing import Callable, Dict, List, Tuple
 
-from words import (
+from reference.words import (
     ABOVE_CEILING, ACQUIRE, ALREADY_STARTED, BROADCAST, CONDITION_VARIABLES,
     COUNT_FULL, CREATE_CONDITION_VARIABLE, CREATE_MUTEX, CREATE_THREAD,
     CREATE_TIMER, DONE, HIGHEST_PRIORITY, IDLE, IDLE_CALLS, LARGEST_COUNT,

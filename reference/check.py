@@ -1,8 +1,9 @@
 """The check program: is a record of right form and sound, and if not, why?
 
-    check.py FILE...              one line for each: FILE ANSWER RULE
-    check.py --list LIST          the same for each path in the file LIST
+    python3 -m reference.check FILE...
+    python3 -m reference.check --list LIST
 
+One line for each file, or for each path in the file LIST: FILE ANSWER RULE.
 The answer is 0, 15 or 1. The rule is the name of the first broken one, or `-`.
 """
 
@@ -12,12 +13,11 @@ import os
 import sys
 from typing import Sequence
 
-from files import (
-    FileTrouble, complain, read_file, read_lines, write_standard_output,
+from reference.files import (
+    FileTrouble, complain, parser_of, read_file, read_lines,
+    write_standard_output,
 )
-from rules import answer_of, broken_rule
-
-USAGE = "usage: check.py FILE... or check.py --list LIST"
+from reference.rules import answer_of, broken_rule
 
 
 def line_of(path: str) -> str:
@@ -40,19 +40,22 @@ def check_all(paths: Sequence[str]) -> int:
     return status
 
 
-def main(arguments: Sequence[str]) -> int:
+def main() -> int:
     """Do what the command line asks; the exit status."""
-    if not arguments or (arguments[0] == "--list" and len(arguments) != 2):
-        complain(USAGE)
-        return 2
+    parser = parser_of("check", __doc__)
+    parser.add_argument("files", metavar="FILE", nargs="*")
+    parser.add_argument("--list", metavar="LIST")
+    asked = parser.parse_args()
+    if bool(asked.files) == (asked.list is not None):
+        parser.error("files, or --list LIST")
     try:
-        if arguments[0] == "--list":
-            return check_all(read_lines(arguments[1]))
-        return check_all(arguments)
+        if asked.list is not None:
+            return check_all(read_lines(asked.list))
+        return check_all(asked.files)
     except FileTrouble as trouble:
         complain(str(trouble))
         return 1
 
 
 if __name__ == "__main__":
-    sys.exit(main(sys.argv[1:]))
+    sys.exit(main())

@@ -8,10 +8,10 @@ from __future__ import annotations
 
 from typing import Callable, Dict, List
 
-from chance import Chance
-from layout import Record, TimerEntry
-from make_records import settle_places
-from words import (
+from reference.chance import Chance
+from reference.layout import Record, TimerEntry
+from reference.make_records import settle_places
+from reference.words import (
     LONGEST_LENGTH, NONE, ONE_SHOT, PERIODIC, READY, RUNNING, TIMER_STOPPED,
     WAITS_FOR_MUTEX, WAITS_ON_CONDITION_VARIABLE, most_left,
 )

@@ -9,13 +9,13 @@ from __future__ import annotations
 
 from typing import Callable, Dict, List
 
-from chance import Chance
-from layout import (
+from reference.chance import Chance
+from reference.layout import (
     ENTRY_SIZES, HEADER, LIMITS, ConditionVariableEntry, MutexEntry, Record,
     ThreadEntry, TimerEntry, bytes_of, header_of, packed, record_of,
 )
-from make_records import settle_places
-from words import LONGEST_LENGTH, NONE, READY, TIMER_STOPPED
+from reference.make_records import settle_places
+from reference.words import LONGEST_LENGTH, NONE, READY, TIMER_STOPPED
 
 Damage = Callable[[Chance, bytes], bytes]
 

@@ -13,11 +13,11 @@ from __future__ import annotations
 
 from typing import Dict, NamedTuple, Tuple
 
-from chance import Chance
-from edges import DELAYS, KINDS, SHORT_DELAYS, TURN_DELAYS
-from layout import Record, TimerEntry
-from stops import NO_TICKS, Case, StopsWalk, make_ready
-from words import PERIODIC, TIMERS, TIMER_STOPPED
+from reference.chance import Chance
+from reference.edges import DELAYS, KINDS, SHORT_DELAYS, TURN_DELAYS
+from reference.layout import Record, TimerEntry
+from reference.stops import NO_TICKS, Case, StopsWalk, make_ready
+from reference.words import PERIODIC, TIMERS, TIMER_STOPPED
 
 # The first expiry comes after the length, and two more show the repeat.
 EXPIRIES = 3

@@ -8,7 +8,7 @@ from __future__ import annotations
 
 from typing import NamedTuple, Tuple
 
-from words import ONE_SHOT, PERIODIC
+from reference.words import ONE_SHOT, PERIODIC
 
 # One-shot and periodic, as a row of start timer has them.
 KINDS = (0, 1)

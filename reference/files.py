@@ -1,13 +1,16 @@
-"""Reading and writing whole files, and the one clear line when that fails.
+"""Reading and writing whole files, and the one clear line when that fails;
+and the reader of a command line.
 
 Standard output is written straight through, so that a full disk or a closed
 pipe is met here, where it can still be reported, and not at the very end.
+Wrong use ends a program with 2, after its usage.
 """
 
 from __future__ import annotations
 
+import argparse
 import os
-from typing import List
+from typing import List, Optional
 
 
 class FileTrouble(Exception):
@@ -69,3 +72,19 @@ def complain(line: str) -> None:
     except OSError:
         # There is no other place left to say it; the exit status remains.
         pass
+
+
+def parser_of(name: str, about: Optional[str]) -> argparse.ArgumentParser:
+    """What reads the command line of a program, which is started by its name
+    at the top of the repository."""
+    return argparse.ArgumentParser(
+        prog="python3 -m reference." + name, description=about,
+        formatter_class=argparse.RawDescriptionHelpFormatter,
+    )
+
+
+def natural(word: str) -> int:
+    """A number of a command line, in figures alone."""
+    if not (word.isascii() and word.isdecimal()):
+        raise argparse.ArgumentTypeError("%r is no number" % word)
+    return int(word)

@@ -1,23 +1,24 @@
 """The generator: call files and records from a seed.
 
-    generate.py calls SEED COUNT DIR      calls-00000.bin ..., and for a share
-                                          of them a start, calls-00000.start
-    generate.py records SEED COUNT DIR    record-00000.bin ...
+    python3 -m reference.generate calls SEED COUNT DIR
+    python3 -m reference.generate records SEED COUNT DIR
 
-The same seed gives the same files everywhere. Files of the same names in the
-folder are replaced; the folder is made if it is missing.
+Calls are calls-00000.bin ..., with a start for a share of them,
+calls-00000.start; records are record-00000.bin ... The same seed gives the
+same files everywhere. Files of the same names in the folder are replaced; the
+folder is made if it is missing.
 """
 
 from __future__ import annotations
 
 import os
 import sys
-from typing import Sequence
+from typing import Callable, Dict
 
-from files import FileTrouble, complain, describe, write_file
-from make_files import make_call_file, make_record
-
-USAGE = "usage: generate.py calls|records SEED COUNT DIR"
+from reference.files import (
+    FileTrouble, complain, describe, natural, parser_of, write_file,
+)
+from reference.make_files import make_call_file, make_record
 
 
 def make_folder(path: str) -> None:
@@ -48,23 +49,22 @@ def write_records(seed: int, count: int, folder: str) -> None:
         write_file(path, make_record(seed, index))
 
 
-def main(arguments: Sequence[str]) -> int:
+MAKERS: Dict[str, Callable[[int, int, str], None]] = {
+    "calls": write_calls, "records": write_records,
+}
+
+
+def main() -> int:
     """Do what the command line asks; the exit status."""
-    numbers = [word for word in arguments[1:3] if word.isdecimal()]
-    if len(arguments) != 4 or len(numbers) != 2:
-        complain(USAGE)
-        return 2
-    what, folder = arguments[0], arguments[3]
-    seed, count = int(numbers[0]), int(numbers[1])
-    if what not in ("calls", "records"):
-        complain(USAGE)
-        return 2
+    parser = parser_of("generate", __doc__)
+    parser.add_argument("what", choices=MAKERS)
+    parser.add_argument("seed", metavar="SEED", type=natural)
+    parser.add_argument("count", metavar="COUNT", type=natural)
+    parser.add_argument("folder", metavar="DIR")
+    asked = parser.parse_args()
     try:
-        make_folder(folder)
-        if what == "calls":
-            write_calls(seed, count, folder)
-        else:
-            write_records(seed, count, folder)
+        make_folder(asked.folder)
+        MAKERS[asked.what](asked.seed, asked.count, asked.folder)
     except FileTrouble as trouble:
         complain(str(trouble))
         return 1
@@ -72,4 +72,4 @@ def main(arguments: Sequence[str]) -> int:
 
 
 if __name__ == "__main__":
-    sys.exit(main(sys.argv[1:]))
+    sys.exit(main())

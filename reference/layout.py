@@ -11,7 +11,7 @@ import struct
 from dataclasses import dataclass, field
 from typing import Dict, List, NamedTuple, Tuple
 
-from words import (
+from reference.words import (
     CONDITION_VARIABLES, MUTEXES, NONE, THREADS, TIMERS, WAITS_FOR_MUTEX,
     WAITS_ON_CONDITION_VARIABLE,
 )

@@ -8,24 +8,28 @@ from __future__ import annotations
 
 from typing import Callable, Dict, List, NamedTuple, Optional, Tuple
 
-from actions import call, start_timer_on, timers_in
-from book import Book
-from chance import Chance, chance_for
-from damage import break_sound
-from damage_bytes import FORM_DAMAGE, blind_damage
-from delays import DelaysWalk, lay_out_delays
-from edges import EDGE_ROWS, TimerRow
-from layout import ConditionVariableEntry, Record, TimerEntry, bytes_of
-from make_records import (
+from reference.actions import call, start_timer_on, timers_in
+from reference.book import Book
+from reference.chance import Chance, chance_for
+from reference.damage import break_sound
+from reference.damage_bytes import FORM_DAMAGE, blind_damage
+from reference.delays import DelaysWalk, lay_out_delays
+from reference.edges import EDGE_ROWS, TimerRow
+from reference.layout import (
+    ConditionVariableEntry, Record, TimerEntry, bytes_of,
+)
+from reference.make_records import (
     deep_or_started_record, deep_record, laid_out_record, started_record,
     stopped_record,
 )
-from record import load
-from rows import ROW
-from rules import FORM_NAMES, SOUND_NAMES, all_broken_sound, broken_rule
-from stops import Case, StopsWalk, lay_out_stops
-from walks import TASTES, Walk
-from words import (
+from reference.record import load
+from reference.rows import ROW
+from reference.rules import (
+    FORM_NAMES, SOUND_NAMES, all_broken_sound, broken_rule,
+)
+from reference.stops import Case, StopsWalk, lay_out_stops
+from reference.walks import TASTES, Walk
+from reference.words import (
     LONGEST_LENGTH, NONE, TICK, TIMER_STOPPED, Answer, delay_of,
 )
 

@@ -8,15 +8,15 @@ from __future__ import annotations
 
 from typing import Dict, List
 
-from book import Book
-from chance import Chance, chance_for
-from layout import (
+from reference.book import Book
+from reference.chance import Chance, chance_for
+from reference.layout import (
     ConditionVariableEntry, MutexEntry, Record, ThreadEntry, TimerEntry,
     record_of,
 )
-from record import save
-from walks import TASTES, Walk
-from words import (
+from reference.record import save
+from reference.walks import TASTES, Walk
+from reference.words import (
     CONDITION_VARIABLES, HIGHEST_PRIORITY, LARGEST_COUNT, LONGEST_LENGTH,
     MUTEXES, NONE, ONE_SHOT, PERIODIC, READY, RUNNING, THREADS,
     TICK_COUNT_ROUND, TIMERS, TIMER_STOPPED, WAITS_FOR_MUTEX,

@@ -1,11 +1,13 @@
 """What call files and records meet of the edges of the rules for timers.
 
-    met.py calls LIST       LIST has lines CALLS START, START a record or boot
-    met.py records LIST     LIST has a path a line
+    python3 -m reference.met calls LIST
+    python3 -m reference.met records LIST
 
-A comparison can ask here whether its files came to all that is worth a look.
-Each case has a name; those that a large set of files has to meet are wanted.
-For each of these there is one line, `FILES NAME`: how many files meet it.
+LIST has lines CALLS START, START a record or `boot`, or the path of a record
+on each line. A comparison can ask here whether its files came to all that is
+worth a look. Each case has a name; those that a large set of files has to meet
+are wanted. For each of these there is one line, `FILES NAME`: how many files
+meet it.
 """
 
 from __future__ import annotations
@@ -15,22 +17,21 @@ from collections import Counter
 from dataclasses import dataclass
 from typing import Callable, Dict, FrozenSet, List, Optional, Sequence, Set
 
-from book import Book, refusal, step
-from edges import ACCEPTED_DELAYS, DELAYS, SHORT_DELAYS, TURN_DELAYS
-from files import (
-    FileTrouble, complain, read_file, read_lines, write_standard_output,
+from reference.book import Book, refusal, step
+from reference.edges import ACCEPTED_DELAYS, DELAYS, SHORT_DELAYS, TURN_DELAYS
+from reference.files import (
+    FileTrouble, complain, parser_of, read_file, read_lines,
+    write_standard_output,
 )
-from layout import Record, TimerEntry, record_of
-from record import load
-from rows import ROW, take_apart
-from rules import broken_form
-from rules_of_sound import SOUND_RULES
-from words import (
+from reference.layout import Record, TimerEntry, record_of
+from reference.record import load
+from reference.rows import ROW, take_apart
+from reference.rules import broken_form
+from reference.rules_of_sound import SOUND_RULES
+from reference.words import (
     DONE, LONGEST_LENGTH, ONE_SHOT, PERIODIC, START_TIMER, STOP_TIMER, TICK,
     TICK_COUNT_ROUND, TIMER_STOPPED, Call,
 )
-
-USAGE = "usage: met.py calls LIST or met.py records LIST"
 
 KIND_NAMES: Dict[int, str] = {ONE_SHOT: "one-shot", PERIODIC: "periodic"}
 
@@ -248,14 +249,15 @@ def count_met(
     return "".join(f"{times[name]} {name}\n" for name in sorted(wanted))
 
 
-def main(arguments: Sequence[str]) -> int:
+def main() -> int:
     """Do what the command line asks; the exit status."""
-    if len(arguments) != 2 or arguments[0] not in ("calls", "records"):
-        complain(USAGE)
-        return 2
+    parser = parser_of("met", __doc__)
+    parser.add_argument("what", choices=("calls", "records"))
+    parser.add_argument("list", metavar="LIST")
+    asked = parser.parse_args()
     try:
-        lines = read_lines(arguments[1])
-        if arguments[0] == "calls":
+        lines = read_lines(asked.list)
+        if asked.what == "calls":
             text = count_met(lines, met_by_calls_line, WANTED_OF_CALLS)
         else:
             text = count_met(lines, met_by_record_line, WANTED_OF_RECORDS)
@@ -267,4 +269,4 @@ def main(arguments: Sequence[str]) -> int:
 
 
 if __name__ == "__main__":
-    sys.exit(main(sys.argv[1:]))
+    sys.exit(main())

@@ -9,13 +9,13 @@ from __future__ import annotations
 
 from typing import Dict, List, Tuple
 
-from book import Book, ConditionVariable, Mutex, Thread, Timer
-from layout import (
+from reference.book import Book, ConditionVariable, Mutex, Thread, Timer
+from reference.layout import (
     ConditionVariableEntry, MutexEntry, Record, ThreadEntry, TimerEntry,
     bytes_of, record_of,
 )
-from rules import answer_of, broken_rule
-from words import (
+from reference.rules import answer_of, broken_rule
+from reference.words import (
     BUFFER_SHORT, DONE, NOT_SOUND, RUNNING, TICK_COUNT_ROUND, TIMER_STOPPED,
 )
 

@@ -8,8 +8,8 @@ from __future__ import annotations
 
 from typing import Dict, Optional, Tuple
 
-from book import Book, step
-from words import (
+from reference.book import Book, step
+from reference.words import (
     ACQUIRE, BROADCAST, CREATE_CONDITION_VARIABLE, CREATE_MUTEX,
     CREATE_THREAD, CREATE_TIMER, NONE, RELEASE, SIGNAL, START, START_TIMER,
     STOP_TIMER, TICK, WAIT, WRONG_ROW, Answer, Call,

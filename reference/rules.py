@@ -9,11 +9,11 @@ from __future__ import annotations
 
 from typing import List, NamedTuple, Optional, Sequence, Tuple
 
-from breach import Breach, Judged, Rule
-from layout import Record, record_of
-from rules_of_form import FORM_RULES
-from rules_of_sound import SOUND_RULES
-from words import DONE, NOT_SOUND, WRONG_FORM
+from reference.breach import Breach, Judged, Rule
+from reference.layout import Record, record_of
+from reference.rules_of_form import FORM_RULES
+from reference.rules_of_sound import SOUND_RULES
+from reference.words import DONE, NOT_SOUND, WRONG_FORM
 
 FORM_NAMES: Tuple[str, ...] = tuple(name for name, _ in FORM_RULES)
 SOUND_NAMES: Tuple[str, ...] = tuple(name for name, _ in SOUND_RULES)

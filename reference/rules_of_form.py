@@ -8,11 +8,11 @@ from __future__ import annotations
 
 from typing import Callable, Tuple
 
-from breach import IN_HEADER, Breach, Breaches, Rule
-from layout import (
+from reference.breach import IN_HEADER, Breach, Breaches, Rule
+from reference.layout import (
     ENTRY_SIZES, HEADER, LIMITS, TABLE_NAMES, entries, header_of, packed,
 )
-from words import PERIODIC, READY, WAITS_ON_CONDITION_VARIABLE
+from reference.words import PERIODIC, READY, WAITS_ON_CONDITION_VARIABLE
 
 FormRule = Callable[[bytes], Breaches]
 

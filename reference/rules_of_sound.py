@@ -9,9 +9,9 @@ from __future__ import annotations
 
 from typing import Dict, List, Tuple
 
-from breach import IN_HEADER, Breach, Breaches, Rule
-from layout import Queue, Record, ThreadEntry
-from words import (
+from reference.breach import IN_HEADER, Breach, Breaches, Rule
+from reference.layout import Queue, Record, ThreadEntry
+from reference.words import (
     HIGHEST_PRIORITY, IDLE, NONE, PERIODIC, READY, RUNNING, TIMER_STOPPED,
     WAITS_FOR_MUTEX, WAITS_ON_CONDITION_VARIABLE, most_left,
 )

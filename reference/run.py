@@ -1,27 +1,28 @@
 """The run program: a file of calls in, document 01's text out.
 
-    run.py [CALLS]                begins at boot; standard input without CALLS
-    run.py CALLS START END        begins at the record in START, or at `boot`;
-                                  the final record goes to END, `-` for none
-    run.py --many LIST            lines CALLS START END OUT; text goes to OUT
+    python3 -m reference.run [CALLS [START END]]
+    python3 -m reference.run --many LIST
+
+It begins at boot, or at the record in START; the final record goes to END, `-`
+for none. Without CALLS standard input has them. A LIST has lines CALLS START
+END OUT, and each text goes to OUT.
 """
 
 from __future__ import annotations
 
 import sys
-from typing import List, Sequence
+from typing import List
 
-from book import Book
-from files import (
-    FileTrouble, complain, read_file, read_lines, read_standard_input,
-    write_file, write_standard_output,
+from reference.book import Book
+from reference.files import (
+    FileTrouble, complain, parser_of, read_file, read_lines,
+    read_standard_input, write_file, write_standard_output,
 )
-from record import load, save
-from rows import ROW, answer_row
-from words import DONE
+from reference.record import load, save
+from reference.rows import ROW, answer_row
+from reference.words import DONE
 
 HEADING = "line answer given running"
-USAGE = "usage: run.py [CALLS [START END]] or run.py --many LIST"
 
 
 def text_of(book: Book, calls: bytes) -> bytes:
@@ -65,20 +66,27 @@ def run_many(path: str) -> int:
     return status
 
 
-def main(arguments: Sequence[str]) -> int:
+def main() -> int:
     """Do what the command line asks; the exit status."""
+    parser = parser_of("run", __doc__)
+    for name in ("CALLS", "START", "END"):
+        parser.add_argument(name.lower(), metavar=name, nargs="?")
+    parser.add_argument("--many", metavar="LIST")
+    asked = parser.parse_args()
+    given = [asked.calls, asked.start, asked.end]
+    files = [file for file in given if file is not None]
+    if len(files) == 2:
+        parser.error("a START needs an END")
+    if files and asked.many is not None:
+        parser.error("--many takes no further file")
     try:
-        if len(arguments) == 2 and arguments[0] == "--many":
-            return run_many(arguments[1])
-        if len(arguments) == 0:
-            text = text_of(Book(), read_standard_input())
-        elif len(arguments) == 1:
-            text = run(arguments[0], "boot", "-")
-        elif len(arguments) == 3:
-            text = run(arguments[0], arguments[1], arguments[2])
+        if asked.many is not None:
+            return run_many(asked.many)
+        if files:
+            calls, start, end = [*files, "boot", "-"][:3]
+            text = run(calls, start, end)
         else:
-            complain(USAGE)
-            return 2
+            text = text_of(Book(), read_standard_input())
         write_standard_output(text)
     except FileTrouble as trouble:
         complain(str(trouble))
@@ -87,4 +95,4 @@ def main(arguments: Sequence[str]) -> int:
 
 
 if __name__ == "__main__":
-    sys.exit(main(sys.argv[1:]))
+    sys.exit(main())

@@ -10,14 +10,14 @@ from __future__ import annotations
 
 from typing import Dict, List, NamedTuple
 
-from actions import call, some_delay_of, some_target, timers_in
-from book import Book
-from chance import Chance
-from edges import KINDS
-from layout import ConditionVariableEntry, Record, TimerEntry
-from rows import ROW
-from walks import STOPPING, Range, Walk
-from words import (
+from reference.actions import call, some_delay_of, some_target, timers_in
+from reference.book import Book
+from reference.chance import Chance
+from reference.edges import KINDS
+from reference.layout import ConditionVariableEntry, Record, TimerEntry
+from reference.rows import ROW
+from reference.walks import STOPPING, Range, Walk
+from reference.words import (
     LONGEST_LENGTH, NONE, ONE_SHOT, START_TIMER, STOP_TIMER, TICK_COUNT_ROUND,
     TIMERS, TIMER_STOPPED, most_left, repeat_of,
 )

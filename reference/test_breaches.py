@@ -10,14 +10,16 @@ from __future__ import annotations
 import unittest
 from typing import Tuple
 
-from breach import Breach
-from layout import record_of
-from rules import (
+from reference.breach import Breach
+from reference.layout import record_of
+from reference.rules import (
     FORM_NAMES, SOUND_NAMES, Broken, broken_rule, first_breach,
 )
-from rules_of_form import FORM_RULES
-from rules_of_sound import SOUND_RULES
-from test_records import STARTED, STILL_SOUND, STOPPED, Changes, changed
+from reference.rules_of_form import FORM_RULES
+from reference.rules_of_sound import SOUND_RULES
+from reference.test_records import (
+    STARTED, STILL_SOUND, STOPPED, Changes, changed,
+)
 
 Case = Tuple[str, Changes, str, str]
 

@@ -10,13 +10,13 @@ from __future__ import annotations
 import unittest
 from typing import Dict, Tuple
 
-from book import Book
-from record import load, save
-from rows import answer_row, make_row, take_apart
-from rules import broken_rule
-from table import LAST_TICK_COUNT, Fact
-from test_examples import shown
-from words import (
+from reference.book import Book
+from reference.record import load, save
+from reference.rows import answer_row, make_row, take_apart
+from reference.rules import broken_rule
+from reference.table import LAST_TICK_COUNT, Fact
+from reference.test_examples import shown
+from reference.words import (
     ACQUIRE, BROADCAST, CREATE_CONDITION_VARIABLE, CREATE_MUTEX,
     CREATE_THREAD, CREATE_TIMER, RELEASE, SIGNAL, START, START_TIMER,
     STOP_TIMER, TICK, WAIT, Call,

@@ -5,15 +5,15 @@ from __future__ import annotations
 import unittest
 from typing import Tuple
 
-from book import Book
-from record import load, save
-from rows import answer_row
-from run import text_of
-from table import (
+from reference.book import Book
+from reference.record import load, save
+from reference.rows import answer_row
+from reference.run import text_of
+from reference.table import (
     BOOT_RECORD, EXAMPLES, RECORDS, RUN_ROWS, RUN_TEXT, SPOKES, Example, Fact,
     row_of,
 )
-from words import NONE, READY, TICK_COUNT_ROUND, spoke_of, turns_of
+from reference.words import NONE, READY, TICK_COUNT_ROUND, spoke_of, turns_of
 
 
 def ready_queue(book: Book, priority: int) -> Tuple[int, ...]:

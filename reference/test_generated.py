@@ -11,26 +11,26 @@ from dataclasses import dataclass, field
 from functools import lru_cache
 from typing import Dict, List, Set, Tuple
 
-from actions import leads_to
-from book import Book
-from chance import Chance, chance_for
-from layout import Record, TimerEntry, bytes_of, record_of
-from make_files import (
+from reference.actions import leads_to
+from reference.book import Book
+from reference.chance import Chance, chance_for
+from reference.layout import Record, TimerEntry, bytes_of, record_of
+from reference.make_files import (
     DELAYS_AT, DELAYS_EVERY, FAR_AT, FAR_EVERY, MANY_AT, MANY_EVERY,
     NEVER_ALONE, STOPS_AT, STOPS_EVERY, CallFile, make_call_file, make_record,
 )
-from make_records import (
+from reference.make_records import (
     deep_record, laid_out_record, started_record, stopped_record,
 )
-from met import (
+from reference.met import (
     WANTED_OF_CALLS, WANTED_OF_RECORDS, met_by_calls, met_by_record,
 )
-from record import load, save
-from rows import answer_row, take_apart
-from rules import (
+from reference.record import load, save
+from reference.rows import answer_row, take_apart
+from reference.rules import (
     FORM_NAMES, SOUND_NAMES, all_broken_sound, broken_form, broken_rule,
 )
-from words import NONE, Answer
+from reference.words import NONE, Answer
 
 SEED = 2_024
 FILES = 200

@@ -10,11 +10,11 @@ from __future__ import annotations
 import unittest
 from typing import Tuple
 
-from book import Book
-from record import load, save
-from table import LAST_TICK_COUNT
-from test_calls import Scene
-from words import (
+from reference.book import Book
+from reference.record import load, save
+from reference.table import LAST_TICK_COUNT
+from reference.test_calls import Scene
+from reference.words import (
     CREATE_TIMER, START, START_TIMER, STOP_TIMER, TICK, delay_of, length_of,
     most_left, repeat_of,
 )

@@ -5,15 +5,15 @@ from __future__ import annotations
 import unittest
 from typing import Set
 
-from edges import (
+from reference.edges import (
     ACCEPTED_DELAYS, DELAYS, EDGE_ROWS, REFUSED_DELAYS, SOUND_ROWS,
 )
-from met import (
+from reference.met import (
     WANTED_OF_CALLS, WANTED_OF_RECORDS, met_by_calls, met_by_record,
 )
-from rules import broken_rule
-from table import BOOT_RECORD, LAST_TICK_COUNT, row_of
-from test_records import STARTED, STOPPED, Changes, changed
+from reference.rules import broken_rule
+from reference.table import BOOT_RECORD, LAST_TICK_COUNT, row_of
+from reference.test_records import STARTED, STOPPED, Changes, changed
 
 # A condition variable, two timers, and the start.
 READY = ("04", "05", "05", "01")

@@ -9,9 +9,11 @@ import tempfile
 import unittest
 from typing import Dict, List, Optional, Tuple
 
-from table import BOOT_RECORD, LAST_TICK_COUNT, RUN_ROWS, RUN_TEXT, row_of
+from reference.table import (
+    BOOT_RECORD, LAST_TICK_COUNT, RUN_ROWS, RUN_TEXT, row_of,
+)
 
-HERE = os.path.dirname(os.path.abspath(__file__))
+TOP = os.path.dirname(os.path.dirname(os.path.abspath(__file__)))
 CALLS = b"".join(row_of(row) for row in RUN_ROWS)
 HEADING = b"line answer given running\n"
 
@@ -26,10 +28,10 @@ def program(
     name: str, *arguments: str, given: bytes = b"",
     environment: Optional[Dict[str, str]] = None,
 ) -> Tuple[int, bytes, bytes]:
-    """Run a program; its exit status, output and complaints."""
+    """Run a program at the top; its exit status, output and complaints."""
     done = subprocess.run(
-        [sys.executable, "-B", os.path.join(HERE, name), *arguments],
-        input=given, stdout=subprocess.PIPE, stderr=subprocess.PIPE,
+        [sys.executable, "-B", "-m", "reference." + name, *arguments],
+        cwd=TOP, input=given, stdout=subprocess.PIPE, stderr=subprocess.PIPE,
         env=dict(os.environ, **(environment or {})), check=False,
     )
     return done.returncode, done.stdout, done.stderr
@@ -75,41 +77,41 @@ class Run(Folder):
     def test_file_and_standard_input(self) -> None:
         """The run of document 01, byte for byte, either way."""
         path = self.put("calls", CALLS)
-        self.assertEqual(program("run.py", path), (0, RUN_TEXT, b""))
-        self.assertEqual(program("run.py", given=CALLS), (0, RUN_TEXT, b""))
+        self.assertEqual(program("run", path), (0, RUN_TEXT, b""))
+        self.assertEqual(program("run", given=CALLS), (0, RUN_TEXT, b""))
 
     def test_empty_and_part(self) -> None:
         """An empty file gives the heading, a part row a line with 17."""
         path = self.put("calls", b"")
-        self.assertEqual(program("run.py", path), (0, HEADING, b""))
+        self.assertEqual(program("run", path), (0, HEADING, b""))
         path = self.put("calls", CALLS + b"\x0d")
         self.assertEqual(
-            program("run.py", path), (0, RUN_TEXT + b"4 17 255 1\n", b"")
+            program("run", path), (0, RUN_TEXT + b"4 17 255 1\n", b"")
         )
 
     def test_start_and_end(self) -> None:
         """The final record is written, and can be begun at."""
         calls, end = self.put("calls", CALLS), self.path("end")
         self.assertEqual(
-            program("run.py", calls, "boot", end), (0, RUN_TEXT, b"")
+            program("run", calls, "boot", end), (0, RUN_TEXT, b"")
         )
         self.assertEqual(self.get("end"), END)
         tick = self.put("tick", row_of("0D"))
         self.assertEqual(
-            program("run.py", tick, end, end), (0, HEADING + b"1 0 0 1\n", b"")
+            program("run", tick, end, end), (0, HEADING + b"1 0 0 1\n", b"")
         )
         self.assertEqual(self.get("end"), END[:20] + b"\x02" + END[21:])
         self.assertEqual(
-            program("run.py", tick, end, "-"), (0, HEADING + b"1 0 0 1\n", b"")
+            program("run", tick, end, "-"), (0, HEADING + b"1 0 0 1\n", b"")
         )
-        self.assertFalse(os.path.exists("-"))
+        self.assertFalse(os.path.exists(os.path.join(TOP, "-")))
 
     def test_round(self) -> None:
         """E5 from a record file."""
         start = self.put("start", bytes.fromhex(LAST_TICK_COUNT))
         calls = self.put("calls", row_of("0B") + row_of("0D"))
         self.assertEqual(
-            program("run.py", calls, start, self.path("end")),
+            program("run", calls, start, self.path("end")),
             (0, HEADING + b"1 0 255 0\n2 0 1 0\n", b""),
         )
         self.assertEqual(self.get("end")[20:24], bytes(4))
@@ -120,7 +122,7 @@ class Run(Folder):
             "04", "05", "01", "0B 00 00 00 30 F8 E7 03", "0C",
             "0B 00 00 01 00 E8 03", "0D", "0C", "0C",
         ))))
-        self.assertEqual(program("run.py", calls), (0, HEADING + (
+        self.assertEqual(program("run", calls), (0, HEADING + (
             b"1 0 0 255\n2 0 0 255\n3 0 255 0\n4 0 255 0\n5 0 65535 0\n"
             b"6 0 255 0\n7 0 0 0\n8 0 256 0\n9 14 255 0\n"
         ), b""))
@@ -135,27 +137,30 @@ class Run(Folder):
         ):
             start = self.put("start", data)
             self.assertEqual(
-                program("run.py", calls, start, end), (0, text, b"")
+                program("run", calls, start, end), (0, text, b"")
             )
             self.assertFalse(os.path.exists(end))
 
     def test_files_in_trouble(self) -> None:
         """A missing file, a folder, an end that cannot be written."""
         calls, missing = self.put("calls", CALLS), self.path("missing")
-        self.one_complaint(program("run.py", missing), "missing")
-        self.one_complaint(program("run.py", self.folder), self.folder)
+        self.one_complaint(program("run", missing), "missing")
+        self.one_complaint(program("run", self.folder), self.folder)
         self.one_complaint(
-            program("run.py", calls, missing, "-"), "missing"
+            program("run", calls, missing, "-"), "missing"
         )
         self.one_complaint(
-            program("run.py", calls, "boot", self.folder), self.folder
+            program("run", calls, "boot", self.folder), self.folder
         )
-        self.one_complaint(program("run.py", "--many", missing), "missing")
+        self.one_complaint(program("run", "--many", missing), "missing")
 
     def test_usage(self) -> None:
         """Other numbers of arguments are shown how to do it."""
-        for arguments in (("a", "b"), ("a", "b", "c", "d")):
-            status, output, complaint = program("run.py", *arguments)
+        for arguments in (
+            ("a", "b"), ("a", "b", "c", "d"), ("--many",), ("--more",),
+            ("--many", "a", "b"), ("--many", "a", "b", "c", "d"),
+        ):
+            status, output, complaint = program("run", *arguments)
             self.assertEqual((status, output), (2, b""))
             self.assertIn(b"usage", complaint)
 
@@ -173,7 +178,7 @@ class Run(Folder):
         listed = self.put("list", "".join(
             " ".join(words) + "\n" for words in lines
         ).encode())
-        self.one_complaint(program("run.py", "--many", listed), "missing")
+        self.one_complaint(program("run", "--many", listed), "missing")
         self.assertEqual(self.get("end"), END)
         self.assertEqual(self.get("one"), RUN_TEXT)
         self.assertEqual(self.get("two"), b"record refused 15\n")
@@ -198,22 +203,23 @@ class Check(Folder):
             "%s 15 form-short\n" % (sound, short, base, empty)
         ).encode()
         self.assertEqual(
-            program("check.py", sound, short, base, empty), (0, wanted, b"")
+            program("check", sound, short, base, empty), (0, wanted, b"")
         )
         listed = self.put(
             "list", "\n".join((sound, short, base, empty)).encode()
         )
         self.assertEqual(
-            program("check.py", "--list", listed), (0, wanted, b"")
+            program("check", "--list", listed), (0, wanted, b"")
         )
 
     def test_files_in_trouble(self) -> None:
         """A missing file or a folder gets one line of complaint."""
         missing = self.path("missing")
-        self.one_complaint(program("check.py", missing), "missing")
-        self.one_complaint(program("check.py", self.folder), self.folder)
-        self.one_complaint(program("check.py", "--list", missing), "missing")
-        self.assertEqual(program("check.py")[0], 2)
+        self.one_complaint(program("check", missing), "missing")
+        self.one_complaint(program("check", self.folder), self.folder)
+        self.one_complaint(program("check", "--list", missing), "missing")
+        for arguments in ((), ("--list",), ("--list", missing, missing)):
+            self.assertEqual(program("check", *arguments)[:2], (2, b""))
 
 
 class Generate(Folder):
@@ -229,7 +235,7 @@ class Generate(Folder):
             environment = {"PYTHONHASHSEED": order}
             for what in ("calls", "records"):
                 self.assertEqual(program(
-                    "generate.py", what, "7", "33", folder,
+                    "generate", what, "7", "33", folder,
                     environment=environment,
                 ), (0, b"", b""))
             files = sorted(os.listdir(folder))
@@ -247,14 +253,34 @@ class Generate(Folder):
         """A folder that cannot be made, and wrong arguments."""
         blocked = self.put("file", b"")
         self.one_complaint(
-            program("generate.py", "calls", "1", "1", blocked), "file"
+            program("generate", "calls", "1", "1", blocked), "file"
         )
         for arguments in (
             (), ("calls", "1", "1"), ("rows", "1", "1", self.path("x")),
             ("calls", "one", "1", self.path("x")),
+            ("calls", "1", "-1", self.path("x")),
+            ("records", "1", "1_0", self.path("x")),
+            ("records", "1", "1", self.path("x"), "y"),
         ):
-            self.assertEqual(program("generate.py", *arguments)[0], 2)
+            self.assertEqual(program("generate", *arguments)[0], 2)
         self.assertFalse(os.path.exists(self.path("x")))
+
+
+class Met(Folder):
+    """The program that names what files meet."""
+
+    def test_usage(self) -> None:
+        """What is asked of which list, and nothing else."""
+        listed = self.put("list", b"")
+        status, output, complaint = program("met", "records", listed)
+        self.assertEqual((status, complaint), (0, b""))
+        self.assertEqual(output.count(b"\n"), 5)
+        for arguments in (
+            (), ("calls",), ("rows", listed), ("calls", listed, listed),
+        ):
+            status, output, complaint = program("met", *arguments)
+            self.assertEqual((status, output), (2, b""))
+            self.assertIn(b"usage", complaint)
 
 
 if __name__ == "__main__":

@@ -10,13 +10,13 @@ from __future__ import annotations
 import unittest
 from typing import Dict, Optional, Tuple
 
-from book import Book
-from layout import bytes_of, record_of
-from record import load, save, save_into
-from rules import (
+from reference.book import Book
+from reference.layout import bytes_of, record_of
+from reference.record import load, save, save_into
+from reference.rules import (
     FORM_NAMES, SOUND_NAMES, all_broken_sound, answer_of, broken_rule,
 )
-from table import BOOT_RECORD
+from reference.table import BOOT_RECORD
 
 # Seven threads: 0 ready; 1 owns mutex 0 and waits for mutex 1; 2 runs and
 # owns mutex 1; 3 and 4 wait on condition variable 0, tied to mutex 2; 5 and 6

@@ -1,4 +1,6 @@
-"""All tests of the reference program.
+"""All tests of the second program.
+
+    python3 -m reference.test_reference
 
 Prints the result of each test and ends with one line, `N passed, M failed`.
 The exit status is 0 only if nothing failed and something passed.
@@ -29,7 +31,8 @@ def unloaded(name: str, error: Exception) -> unittest.TestCase:
 def all_tests() -> unittest.TestSuite:
     """The tests of all modules."""
     suite = unittest.TestSuite()
-    for name in MODULES:
+    for module in MODULES:
+        name = "reference." + module
         try:
             suite.addTest(unittest.defaultTestLoader.loadTestsFromName(name))
         except Exception as error:

@@ -10,12 +10,12 @@ from __future__ import annotations
 
 from typing import Dict, List, NamedTuple, Optional, Tuple
 
-import actions
-from actions import Action
-from book import Book
-from chance import Chance
-from rows import ROW, answer_row
-from words import START, TICK, TIMERS, Answer
+from reference import actions
+from reference.actions import Action
+from reference.book import Book
+from reference.chance import Chance
+from reference.rows import ROW, answer_row
+from reference.words import START, TICK, TIMERS, Answer
 
 Weights = Tuple[Tuple[int, Action], ...]
 Range = Tuple[int, int]

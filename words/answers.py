@@ -14,7 +14,7 @@ from __future__ import annotations
 
 from typing import List, Mapping, Tuple
 
-from borrowed import DONE, LONGEST_LENGTH, NONE, STOP_TIMER, Answer
+from words.borrowed import DONE, LONGEST_LENGTH, NONE, STOP_TIMER, Answer
 
 # In the order of document 01's table.
 ANSWERS: Mapping[int, str] = {

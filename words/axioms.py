@@ -15,8 +15,9 @@ import struct
 from pathlib import Path
 from typing import Dict, Iterator, List, NamedTuple
 
-import built
-from streams import Trouble
+from words import built
+from words.kit import kit_folder
+from words.streams import Trouble
 
 # The compiler calls these of itself, for copies and for zeros.
 COMPILERS = frozenset(("memcpy", "memmove", "memset"))
@@ -75,7 +76,7 @@ def open_names(data: bytes) -> Iterator[str]:
 
 def declared() -> Dict[str, str]:
     """What the kit declares of the system, with its whole name."""
-    kit = built.kit_folder()
+    kit = kit_folder()
     if kit is None:
         raise Trouble("rt is not found, and its libraries declare the axioms")
     return {

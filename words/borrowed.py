@@ -6,21 +6,15 @@ numbers of document 01. Imported by the words; it is no program.
 
 from __future__ import annotations
 
-import sys
-from pathlib import Path
-
-# First in the path; no file of the words has a name that one there has.
-sys.path.insert(0, str(Path(__file__).resolve().parent.parent / "reference"))
-
-from layout import (  # noqa: E402
+from reference.layout import (
     ENTRY_SIZES, HEADER, LIMITS, Header, Record, TimerEntry, header_of,
     packed, record_of,
 )
-from rules import (  # noqa: E402
+from reference.rules import (
     Broken, all_broken_sound, answer_of, broken_rule, first_breach,
 )
-from rules_of_sound import standing  # noqa: E402
-from words import (  # noqa: E402
+from reference.rules_of_sound import standing
+from reference.words import (
     ACQUIRE, BROADCAST, CONDITION_VARIABLES, CREATE_CONDITION_VARIABLE,
     CREATE_MUTEX, CREATE_THREAD, CREATE_TIMER, DONE, HIGHEST_PRIORITY,
     LONGEST_LENGTH, MICROSECONDS_PER_TICK, MUTEXES, NONE, NOT_SOUND, PERIODIC,

@@ -28,8 +28,9 @@ from typing import (
     IO, Dict, Iterator, List, NamedTuple, Optional, Sequence,
 )
 
-from streams import Trouble, complain
-from telling import telling
+from words.kit import kit_folder
+from words.streams import Trouble, complain
+from words.telling import telling
 
 TOP = Path(__file__).resolve().parent.parent
 TARGET = TOP / "target"
@@ -118,15 +119,6 @@ def sources(crate: str) -> str:
             place = file.relative_to(TOP)
             sums.append(f"{digest(file.read_bytes())} {place}")
     return digest("\n".join(sums).encode())
-
-
-def kit_folder() -> Optional[Path]:
-    """The folder of the Rattle kit, if there is one."""
-    home = os.environ.get("RATTLE_HOME")
-    if home:
-        return Path(home)
-    command = shutil.which("rt")
-    return Path(command).resolve().parent.parent if command else None
 
 
 def kit() -> Optional[str]:

@@ -21,11 +21,11 @@ from typing import (
     Iterator, List, Mapping, NamedTuple, Optional, Sequence, Tuple,
 )
 
-from borrowed import (
+from words.borrowed import (
     CONDITION_VARIABLES, HIGHEST_PRIORITY, LONGEST_LENGTH,
     MICROSECONDS_PER_TICK, MUTEXES, THREADS, TIMERS, delay_of,
 )
-from streams import Trouble, printable
+from words.streams import Trouble, printable
 
 ROW = 8
 KINDS = ("one-shot", "periodic")

@@ -1,6 +1,6 @@
 """The words of ./tehuamozo, but for `test`.
 
-    door.py WORD ..
+    python3 -m words WORD ..
 
 Every answer comes from the proved programs; what is done here is reading,
 handing on, writing, and saying what happened. The exit status is 0 where the
@@ -8,6 +8,10 @@ work was done, also where calls were refused; 1 where a record was refused or
 an answer is not the expected one; 2 for wrong use, a file that cannot be
 read, or a result that could not be written; 128 and the signal's number where
 one ended it.
+
+The command line is read here, and not by argparse: that takes a word such as
+`-` or `-x` apart by rules of its own, says what is wrong in its own form, and
+would repeat to a screen whatever control signs a word has.
 """
 
 from __future__ import annotations
@@ -19,21 +23,20 @@ import subprocess
 import sys
 from typing import Callable, Dict, List, NoReturn, Sequence, Tuple
 
-import answers
-import axioms
-import built
-import guide
-import running
-import showing
-import telling
-import texts
-from running import NOWHERE
-from sources import BOOT
-from streams import STANDARD_INPUT, Room, Trouble, complain, printable, put
+from words import (
+    answers, axioms, built, guide, running, showing, telling, texts,
+)
+from words.running import NOWHERE
+from words.sources import BOOT
+from words.streams import (
+    STANDARD_INPUT, Room, Trouble, complain, printable, put,
+)
 
 DONE, NOT_DONE = 0, 2
 LAST_TICK = 4_294_967_295
 HELP = ("help", "--help", "-h")
+# What `test` takes; its steps stand in ./tehuamozo.
+LIST, PARTS = "--list", ("proofs", "edits", "comparisons", "words")
 ENDS = (signal.SIGINT, signal.SIGTERM, signal.SIGHUP)
 A_MOMENT = 0.001
 
@@ -196,9 +199,19 @@ def axioms_word(words: Sequence[str]) -> int:
     return DONE
 
 
-def test_word(words: Sequence[str]) -> int:
-    """test: it is done by the shell, before this file is read"""
-    counted("test", words, 0)
+def test_word(words: Sequence[str]) -> NoReturn:
+    """test [--list] [PART]: it is done by the shell, which comes here with
+    what it does not take"""
+    if words.count(LIST) > 1:
+        raise WrongUse("test", f"{LIST} is said once")
+    files, _ = split_option("test", [one for one in words if one != LIST])
+    if len(files) > 1:
+        raise WrongUse("test", f"test takes one part, not {len(files)}")
+    if files and files[0] not in PARTS:
+        raise WrongUse(
+            "test", f"test has no part {printable(files[0])}; the parts are "
+            f"{', '.join(PARTS)}"
+        )
     raise Trouble("test is done by ./tehuamozo")
 
 
@@ -206,13 +219,12 @@ def bench_word(words: Sequence[str]) -> int:
     """bench"""
     counted("bench", words, 0)
     built.program("run").close()
-    library = built.library("tally")
-    script = built.TOP / "bench" / "ratio.py"
+    library = built.library("run_tally")
     with Room() as room:
         # In a session of its own: an interrupt is heard here, and ends it.
         process = subprocess.Popen(
-            [sys.executable, "-B", str(script), str(library)],
-            stdin=subprocess.DEVNULL, start_new_session=True,
+            [sys.executable, "-B", "-E", "-m", "bench.ratio", str(library)],
+            cwd=built.TOP, stdin=subprocess.DEVNULL, start_new_session=True,
             env=dict(os.environ, TMPDIR=room.folder),
         )
         try:
@@ -292,8 +304,3 @@ def main() -> int:
     except Exception as fault:  # whatever it is, the work was not done
         complain(f"a fault of the door: {type(fault).__name__}: {fault}")
         return NOT_DONE
-
-
-if __name__ == "__main__":
-    # Nothing is left to write, and nothing may be said after this.
-    os._exit(main())

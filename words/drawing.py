@@ -17,16 +17,16 @@ from typing import (
     Callable, FrozenSet, Iterator, List, NamedTuple, Sequence, Tuple,
 )
 
-from history import Expiry, History, Lane, Look
-from looks import (
+from words.history import Expiry, History, Lane, Look
+from words.looks import (
     LANE, LETTER, STYLE, THREAD_KINDS, bar, bordered, centred, colour_of,
     cross, diamond, line, mark,
 )
-from spread import (
+from words.spread import (
     BAND_WIDTH, MOST_WRITTEN, Band, Spread, spread_of, tick_columns,
 )
-from streams import printable
-from svg import box, number, path, text
+from words.streams import printable
+from words.svg import box, number, path, text
 
 MARGIN, LABELS = 12, 128
 LEFT = MARGIN + LABELS
@@ -262,7 +262,7 @@ def draw_call(sheet: Sheet, moment: int, top: float) -> str:
     if not sheet.spread.written:
         return drawn
     kind = "refused-words" if answer else "words"
-    turn = f' transform="rotate(90 {number(x)} {number(top + CALLS)})"'
+    turn = f"rotate(90 {number(x)} {number(top + CALLS)})"
     words = call_words(run, moment)
     return drawn + text(kind, x, top + CALLS, words, turn)
 

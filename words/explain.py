@@ -11,10 +11,10 @@ from __future__ import annotations
 from collections import Counter
 from typing import Dict, Iterable, Iterator, List, Sequence, Tuple, Union
 
-from answers import ANSWERS, some, ticks_left
-from borrowed import ACQUIRE, BROADCAST, NONE, SIGNAL, TICK, WAIT, Answer
-from calls import THREAD, Names, line_of, split_rows
-from texts import MADE, Calls
+from words.answers import ANSWERS, some, ticks_left
+from words.borrowed import ACQUIRE, BROADCAST, NONE, SIGNAL, TICK, WAIT, Answer
+from words.calls import THREAD, Names, line_of, split_rows
+from words.texts import MADE, Calls
 
 Column = Union[Sequence[int], Sequence[str]]
 # Numbers stand at the right of their column, words at the left.

@@ -32,7 +32,8 @@ USES: Dict[str, Use] = {
     )),
     "record": Use("FILE [OUT]", (
         "load a saved record, say the answer, and show it as tables; save",
-        "it again as OUT",
+        "it again as OUT. The broken rule of a refused one is named by the",
+        "second program, which is tested and not proved",
     )),
     "rows": Use("TEXT [START] [-o FILE]", (
         "make call rows of a text; the names in it follow START's ids",
@@ -43,8 +44,11 @@ USES: Dict[str, Use] = {
     "axioms": Use("", (
         "print what the proved programs assume of the system",
     )),
-    "test": Use("", (
-        "prove everything from nothing and run every comparison",
+    "test": Use("[--list] [PART]", (
+        "prove everything from nothing and run every comparison; or a part:",
+        "proofs, edits (wrong programs, which the prover must refuse),",
+        "comparisons (with the second program) or words; --list names the",
+        "steps and does none",
     )),
     "bench": Use("", (
         "measure the kernel and the run program against plain C",

@@ -15,8 +15,10 @@ from bisect import bisect_left, bisect_right
 from functools import lru_cache
 from typing import Callable, Iterator, List, NamedTuple, Optional, Sequence
 
-from borrowed import ENTRY_SIZES, HEADER, LIMITS, TICK_COUNT_ROUND, packed
-from streams import Trouble
+from words.borrowed import (
+    ENTRY_SIZES, HEADER, LIMITS, TICK_COUNT_ROUND, packed,
+)
+from words.streams import Trouble
 
 NONE = 255
 THREAD_TABLE, MUTEX_TABLE, TIMER_TABLE = 0, 1, 3

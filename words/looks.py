@@ -12,8 +12,8 @@ from __future__ import annotations
 
 from typing import Tuple
 
-from history import Lane, Look
-from svg import box, number, path, text
+from words.history import Lane, Look
+from words.svg import box, number, path, text
 
 LANE, BOX = 18, 14
 # A letter of the small text, about, and what is left free beside words.

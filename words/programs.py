@@ -11,18 +11,16 @@ from __future__ import annotations
 
 import contextlib
 import os
-import platform
 import re
 import subprocess
 import tempfile
 import threading
 from pathlib import Path
-from typing import IO, Callable, Iterator, List, NamedTuple, Optional, Sequence
+from typing import IO, Callable, Iterator, NamedTuple, Optional, Sequence
 
-import built
-from streams import BLOCK, Trouble, read_some
+from words.kit import command_of
+from words.streams import BLOCK, Trouble, read_some
 
-LOADER = "ld-linux-x86-64.so.2"
 HEADING = b"line answer given running\n"
 REFUSED = b"record refused "
 ROW = 8
@@ -41,19 +39,6 @@ class Handed(NamedTuple):
     name: str
     file: Optional[int]
     size: Optional[int]
-
-
-def command_of(program: str) -> List[str]:
-    """What starts a program: itself, or the kit's emulator and loader."""
-    if platform.machine() == "x86_64":
-        return [program]
-    kit = built.kit_folder()
-    if kit is None:
-        raise Trouble("rt is not found, and its emulator is needed here")
-    tools = kit / "on" / platform.machine() / "toolchain"
-    emulator, library = tools / "bin" / "qemu-x86_64", tools / "lib"
-    loader = [str(library / LOADER), "--library-path", str(library)]
-    return [str(emulator), *loader, program]
 
 
 @contextlib.contextmanager

@@ -11,23 +11,18 @@ import contextlib
 import os
 from typing import Callable, Iterable, List, Optional, Sequence, Tuple
 
-import built
-import drawing
-import explain
-import programs
-import texts
-import timeline
-from answers import ticks_left
-from borrowed import HEADER, Answer, header_of
-from calls import ROW, line_of, split_rows
-from sources import (
+from words import built, drawing, explain, programs, texts, timeline
+from words.answers import ticks_left
+from words.borrowed import HEADER, Answer, header_of
+from words.calls import ROW, line_of, split_rows
+from words.sources import (
     Start, all_calls, all_there, calls_of, handed_of, open_calls, open_start,
     running_at,
 )
-from streams import (
+from words.streams import (
     Output, Room, Trouble, complain, put, shown_name, shown_output,
 )
-from telling import telling
+from words.telling import telling
 
 DONE, REFUSED = 0, 1
 NOWHERE = "-"

@@ -9,17 +9,17 @@ from __future__ import annotations
 import os
 from typing import List, Optional
 
-import tables
-from calls import ROW, lines_of
-from running import (
+from words import tables
+from words.calls import ROW, lines_of
+from words.running import (
     NOWHERE, finish_record, is_taken, put_lines, run_told, say_refused,
     say_what_was_said,
 )
-from sources import (
+from words.sources import (
     BOOT, all_calls, all_there, counts_at, open_calls, open_start,
 )
-from streams import Room, Trouble, complain, put, read_to, shown_name
-from texts import MOST_BYTES, calls_of_text, check_size
+from words.streams import Room, Trouble, complain, put, read_to, shown_name
+from words.texts import MOST_BYTES, calls_of_text, check_size
 
 DONE, REFUSED = 0, 1
 TERMINAL = "rows are not for a terminal: name a file with -o FILE"

@@ -11,10 +11,10 @@ from __future__ import annotations
 import os
 from typing import List, NamedTuple, Optional, Sequence, Tuple
 
-import texts
-from borrowed import answer_of, broken_rule, header_of, record_of
-from programs import Handed
-from streams import (
+from words import texts
+from words.borrowed import answer_of, broken_rule, header_of, record_of
+from words.programs import Handed
+from words.streams import (
     Room, Trouble, identity_of, read_some, read_to, shown_name,
 )
 

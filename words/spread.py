@@ -20,7 +20,7 @@ from __future__ import annotations
 from itertools import chain
 from typing import Iterator, List, NamedTuple, Tuple
 
-from history import History
+from words.history import History
 
 BAND_WIDTH = 1_180
 # The least widths can still be read, the most keep short runs together.

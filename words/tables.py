@@ -5,8 +5,9 @@
 
 The answer is what the proved program says to the record: 0, 15 (wrong form)
 or 1 (not sound). The broken rule is found by the second program's own
-reading, so where the two disagree that is said as well. Of a record of wrong
-form the header is shown, if there are bytes enough, and the rest as bytes.
+reading, which is said beside it, and so it is where the two disagree. Of a
+record of wrong form the header is shown, if there are bytes enough, and the
+rest as bytes.
 Imported by the words; it is no program.
 """
 
@@ -14,13 +15,13 @@ from __future__ import annotations
 
 from typing import Dict, List, Optional, Sequence
 
-from borrowed import (
+from words.borrowed import (
     DONE, HEADER, NONE, NOT_SOUND, WRONG_FORM, Broken, Header, Record,
     all_broken_sound, answer_of, broken_rule, first_breach, header_of,
     record_of,
 )
-from calls import hexadecimal
-from waits import wait_lines
+from words.calls import hexadecimal
+from words.waits import wait_lines
 
 MEANINGS: Dict[int, str] = {
     DONE: "sound", WRONG_FORM: "wrong form", NOT_SOUND: "not sound",
@@ -33,6 +34,10 @@ TIMER_STATES: Dict[int, str] = {0: "stopped", 1: "one-shot", 2: "periodic"}
 TABLES = ("threads", "mutexes", "condition variables", "timers")
 # The longest record of right form has 536 bytes.
 BYTES_IN_LINE, MOST_BYTES = 16, 544
+# The proved program answers by a number, and names no rule.
+WHO_NAMES = (
+    "rules are named by the second program, which is tested and not proved"
+)
 
 Table = List[Sequence[object]]
 
@@ -149,7 +154,8 @@ def record_lines(data: bytes) -> List[str]:
 
 
 def broken_lines(data: bytes, broken: Optional[Broken]) -> List[str]:
-    """The first broken rule with its row, and the other sound ones' names."""
+    """The first broken rule with its row, the other sound ones' names, and
+    who says so."""
     if broken is None:
         return []
     row, sentence = broken.breach
@@ -157,7 +163,7 @@ def broken_lines(data: bytes, broken: Optional[Broken]) -> List[str]:
     if answer_of(broken.rule) == NOT_SOUND:
         others = all_broken_sound(record_of(data))[1:]
         lines += [f"also broken: {', '.join(others)}"] if others else []
-    return lines
+    return [*lines, WHO_NAMES]
 
 
 def verdict_lines(data: bytes, answer: int) -> List[str]:

@@ -1,7 +1,7 @@
 """Tests of the door's parts: what a run's text and record are held to, and
 what files are made of outputs.
 
-    test_door.py
+    python3 -m words.test_door
 
 The whole words are tried in compare/door.py; here stands what no proved
 program does, and the door must not take for done all the same. Prints the
@@ -13,6 +13,7 @@ from __future__ import annotations
 
 import contextlib
 import os
+import platform
 import re
 import subprocess
 import sys
@@ -22,18 +23,18 @@ from pathlib import Path
 from typing import IO, Iterator, List
 from unittest import mock
 
-import running
-import sources
-from borrowed import Answer
-from programs import (
+from words import kit, running, sources
+from words.borrowed import Answer
+from words.built import TOP
+from words.programs import (
     HEADING, Feeder, Handed, Outcome, Text, outcome, place_read,
 )
-from running import finish_record, is_record, lines_drawn, share
-from sources import Start, all_there, open_calls, open_start, running_at
-from streams import Output, Room, Trouble, printable
-from testing import record, run_tests
-from texts import calls_of_rows
-from timeline import pictures
+from words.running import finish_record, is_record, lines_drawn, share
+from words.sources import Start, all_there, open_calls, open_start, running_at
+from words.streams import Output, Room, Trouble, printable
+from words.testing import record, run_tests
+from words.texts import calls_of_rows
+from words.timeline import pictures
 
 OLD = b"what was there before"
 BOOT = bytes.fromhex(
@@ -47,7 +48,7 @@ LONGEST = 536
 # a job in the background would ignore.
 LOST = """
 import signal, time
-import door
+from words import door
 
 class Freed:
     def __del__(self):
@@ -405,8 +406,8 @@ class Signals(unittest.TestCase):
     def door(self, script: str) -> subprocess.CompletedProcess[str]:
         """What becomes of the door with another word."""
         return subprocess.run(
-            [sys.executable, "-B", "-c", script], cwd=Path(__file__).parent,
-            capture_output=True, text=True, check=False, timeout=15,
+            [sys.executable, "-B", "-c", script], cwd=TOP, check=False,
+            capture_output=True, text=True, timeout=15,
         )
 
     def test_lost(self) -> None:
@@ -423,6 +424,74 @@ class Signals(unittest.TestCase):
         done = self.door(FAULT)
         self.assertEqual(done.returncode, 0)
         self.assertIn("ZeroDivisionError", done.stderr)
+
+
+class Kit(unittest.TestCase):
+    """What of the kit runs a program, on each machine."""
+
+    def on(self, machine: str, home: str = "/kit") -> None:
+        """Be on a machine, with a kit in this folder, or with none."""
+        here = mock.patch.object(platform, "machine", return_value=machine)
+        here.start()
+        self.addCleanup(here.stop)
+        found = mock.patch.dict(os.environ, RATTLE_HOME=home, PATH="")
+        found.start()
+        self.addCleanup(found.stop)
+
+    def test_itself(self) -> None:
+        """On x86-64 a program runs by itself, and needs no kit; beside plain
+        C it has the kit's C library."""
+        self.on("x86_64")
+        tools = "/kit/on/x86_64/toolchain"
+        self.assertEqual(kit.command_of("/program"), ["/program"])
+        self.assertEqual(kit.loaded("/program"), [
+            f"{tools}/lib/ld-linux-x86-64.so.2", "--library-path",
+            f"{tools}/lib", "/program",
+        ])
+        self.on("x86_64", "")
+        self.assertEqual(kit.command_of("/program"), ["/program"])
+
+    def test_emulated(self) -> None:
+        """Elsewhere it runs under the kit's emulator, with its loader and C
+        library; without a kit that is said."""
+        self.on("aarch64")
+        tools = "/kit/on/aarch64/toolchain"
+        command = [
+            f"{tools}/bin/qemu-x86_64", f"{tools}/lib/ld-linux-x86-64.so.2",
+            "--library-path", f"{tools}/lib", "/program",
+        ]
+        self.assertEqual(kit.command_of("/program"), command)
+        self.assertEqual(kit.loaded("/program"), command)
+        self.on("aarch64", "")
+        with self.assertRaisesRegex(Trouble, "^rt is not found, and "):
+            kit.command_of("/program")
+
+
+class Places(unittest.TestCase):
+    """What one file of the tree knows, and no other."""
+
+    def files_with(self, words: str) -> List[str]:
+        """The files of our Python and shell that have these words, tests and
+        trials apart."""
+        files = [TOP / name for name in ("tehuamozo", ".ci/run")]
+        files.append(TOP / "bench" / "build")
+        for folder in ("words", "compare", "reference", "bench", "docs"):
+            files += (TOP / folder).glob("*.py")
+        return sorted(
+            str(file.relative_to(TOP)) for file in files
+            if not file.name.startswith("test_")
+            and words in file.read_text("utf-8")
+        )
+
+    def test_emulator(self) -> None:
+        """Where the emulator stands."""
+        self.assertEqual(self.files_with("qemu-"), ["words/kit.py"])
+
+    def test_path(self) -> None:
+        """Where Python finds the packages, which are imported by name."""
+        self.assertEqual(self.files_with("sys.path"), ["words/__main__.py"])
+        for words in ("PYTHONPATH", "MYPYPATH", "importlib"):
+            self.assertEqual(self.files_with(words), [])
 
 
 class Words(unittest.TestCase):

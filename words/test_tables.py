@@ -1,6 +1,6 @@
 """All tests of records as tables and sentences.
 
-    test_tables.py
+    python3 -m words.test_tables
 
 What is expected was worked out by hand from document 01, or comes from the
 second program in reference/. Prints the result of each test and ends with one
@@ -18,11 +18,14 @@ import unittest
 from pathlib import Path
 from typing import Dict, List, Sequence, Set, Tuple
 
-from tables import agrees, record_text
-from testing import record, run_tests
+from words.built import TOP
+from words.tables import agrees, record_text
+from words.testing import record, run_tests
 
-REFERENCE = Path(__file__).resolve().parent.parent / "reference"
 NONE = 255
+WHO_NAMES = (
+    "rules are named by the second program, which is tested and not proved"
+)
 READY, RUNNING, FOR_MUTEX, ON_CONDITION_VARIABLE = 1, 2, 3, 4
 ONE_SHOT, PERIODIC = 1, 2
 
@@ -142,10 +145,10 @@ class Tables(unittest.TestCase):
         """E1: 27 bytes. The header is shown, and the rest as bytes."""
         lines = shown(BOOT[:27], 15)
         self.assertIn("total length 28", lines)
-        self.assertEqual(lines[-4:], [
+        self.assertEqual(lines[-5:], [
             "bytes:", "24 00 01 FF", "answer 15: wrong form",
             "broken rule: form-total, header: "
-            "it says 28 bytes in all, and the record has 27",
+            "it says 28 bytes in all, and the record has 27", WHO_NAMES,
         ])
         self.assertNotIn("in words:", lines)
 
@@ -153,10 +156,10 @@ class Tables(unittest.TestCase):
         """A thread in state 9 is no table, but bytes after the header."""
         lines = shown(BOOT[:25] + b"\x09" + BOOT[26:], 15)
         self.assertIn("24 00 09 FF 00", lines)
-        self.assertEqual(lines[-1], (
+        self.assertEqual(lines[-2:], [
             "broken rule: form-thread-state, thread 0: "
-            "its state is 9, not 1 to 4"
-        ))
+            "its state is 9, not 1 to 4", WHO_NAMES,
+        ])
 
     def test_header_alone(self) -> None:
         """24 bytes are a header, and one fewer is none."""
@@ -173,7 +176,7 @@ class Tables(unittest.TestCase):
             "0 01 00 00 00 00 00 00 00 18 00 1C 00 1C 00 1C 00", "16 1C 00",
             "answer 15: wrong form",
             "broken rule: form-short, header: "
-            "a header has 24 bytes, and the record has 18",
+            "a header has 24 bytes, and the record has 18", WHO_NAMES,
         ])
         self.assertEqual(
             shown(b"", 15)[:2], ["record of 0 bytes", "bytes: none"]
@@ -374,9 +377,10 @@ class Verdicts(unittest.TestCase):
         """E1: thread 0 with base 1. The tables are shown all the same."""
         lines = shown(NOT_SOUND, 1)
         self.assertIn("0 1 1 ready - 0", lines)
-        self.assertEqual(lines[-2:], [
+        self.assertEqual(lines[-3:], [
             "answer 1: not sound",
             "broken rule: sound-idle-base, thread 0: its base is 1, not 0",
+            WHO_NAMES,
         ])
 
     def test_row_and_sentence(self) -> None:
@@ -389,7 +393,7 @@ class Verdicts(unittest.TestCase):
         )
         self.assertEqual(verdict(data, 1), [
             "broken rule: sound-owner-base, mutex 2: "
-            "its owner, thread 5, has base 9, above the ceiling 4",
+            "its owner, thread 5, has base 9, above the ceiling 4", WHO_NAMES,
         ])
 
     def test_also_broken(self) -> None:
@@ -401,7 +405,7 @@ class Verdicts(unittest.TestCase):
             "broken rule: sound-idle-base, thread 0: its base is 2, not 0",
             "also broken: sound-base, sound-ceiling, sound-none-running, "
             "sound-ready-above, sound-stopped-threads, "
-            "sound-stopped-tick-count",
+            "sound-stopped-tick-count", WHO_NAMES,
         ])
 
     def test_others_of_wrong_form_are_not_named(self) -> None:
@@ -409,7 +413,7 @@ class Verdicts(unittest.TestCase):
         data = BOOT[:16] + b"\x63" + BOOT[17:25] + b"\x09\xff\x00"
         self.assertEqual(verdict(data, 15), [
             "broken rule: form-total, header: "
-            "it says 99 bytes in all, and the record has 28",
+            "it says 99 bytes in all, and the record has 28", WHO_NAMES,
         ])
 
     def test_agreement(self) -> None:
@@ -443,16 +447,17 @@ class Verdicts(unittest.TestCase):
             ]
             wanted = [] if rule == "-" else [f"broken rule: {rule}"]
             self.assertEqual(named, wanted)
+            is_said = WHO_NAMES in shown(data, number)
+            self.assertEqual(is_said, bool(wanted))
         self.assertEqual(answers, {0, 1, 15})
 
 
 def generated_records(count: int) -> List[Tuple[bytes, int, str]]:
     """Records of the second program's generator, with what it says of each."""
     with tempfile.TemporaryDirectory() as folder:
-        program([str(REFERENCE / "generate.py"), "records", "3", str(count),
-                 folder])
+        program("generate", "records", "3", str(count), folder)
         paths = sorted(Path(folder).glob("*.bin"))
-        said = program([str(REFERENCE / "check.py"), *map(str, paths)])
+        said = program("check", *map(str, paths))
         lines = [line.split(" ") for line in said.splitlines()]
         return [
             (path.read_bytes(), int(number), rule)
@@ -460,11 +465,11 @@ def generated_records(count: int) -> List[Tuple[bytes, int, str]]:
         ]
 
 
-def program(words: Sequence[str]) -> str:
-    """What a Python program writes that ends well."""
+def program(name: str, *words: str) -> str:
+    """What a script of the second program writes, which ends well."""
     return subprocess.run(
-        [sys.executable, "-B", *words], stdin=subprocess.DEVNULL,
-        stdout=subprocess.PIPE, check=True,
+        [sys.executable, "-B", "-m", f"reference.{name}", *words], cwd=TOP,
+        stdin=subprocess.DEVNULL, stdout=subprocess.PIPE, check=True,
     ).stdout.decode()
 
 

@@ -1,6 +1,6 @@
 """Tests of texts: their language, what they expect, and runs in words.
 
-    test_texts.py
+    python3 -m words.test_texts
 
 What is expected was worked out by hand from document 01, or comes from the
 second program in reference/. Prints the result of each test and ends with one
@@ -19,25 +19,22 @@ import unittest
 from pathlib import Path
 from typing import Dict, List, Sequence, Set, Tuple
 
-import answers
-import calls
-from borrowed import Answer
-from calls import line_of, lines_of, split_rows
-from explain import explained
-from streams import Trouble
-from testing import run_tests
-from texts import (
+from reference.book import Book
+from reference.rows import answer_row
+from reference.run import text_of as text_of_run
+from words import answers, calls
+from words.borrowed import Answer
+from words.built import TOP
+from words.calls import line_of, lines_of, split_rows
+from words.explain import explained
+from words.streams import Trouble
+from words.testing import run_tests
+from words.texts import (
     MOST_BYTES, OTHER_LINES, Calls, Expectation, calls_of_rows, calls_of_text,
     check_size, guide, has_row_byte, is_text, is_utf_16, unmet,
 )
 
-# The second program's, which borrowed.py made findable.
-from book import Book  # isort: skip
-from rows import answer_row  # isort: skip
-from run import text_of as text_of_run  # isort: skip
-
-TOP = Path(__file__).resolve().parent.parent
-REFERENCE, DOCS = TOP / "reference", TOP / "docs"
+DOCS = TOP / "docs"
 NAMES = TOP / "examples" / "names"
 NONE = 255
 
@@ -248,8 +245,8 @@ def generated(what: str, count: int) -> List[bytes]:
     """What is in files of the second program's generator."""
     with tempfile.TemporaryDirectory() as folder:
         subprocess.run(
-            [sys.executable, "-B", str(REFERENCE / "generate.py"), what, "3",
-             str(count), folder], check=True,
+            [sys.executable, "-B", "-m", "reference.generate", what, "3",
+             str(count), folder], cwd=TOP, check=True,
         )
         files = sorted(Path(folder).glob("*.bin"))
         return [path.read_bytes() for path in files]

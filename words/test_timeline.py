@@ -1,6 +1,6 @@
 """All tests of the pictures of runs.
 
-    test_timeline.py
+    python3 -m words.test_timeline
 
 What is expected was worked out by hand from document 01, or comes from the
 second program in reference/. Prints the result of each test and ends with one
@@ -21,22 +21,21 @@ from types import FrameType
 from typing import Any, Dict, List, NamedTuple, Optional, Sequence, Set, Tuple
 from xml.etree import ElementTree
 
-from borrowed import Answer
-from calls import line_of, split_rows
-from drawing import LEFT, TALLEST
-from spread import BAND_WIDTH
-from streams import Trouble
-from testing import record, run_tests
-from timeline import pictures
+from reference.book import Book
+from reference.make_files import make_call_file
+from reference.record import load, save
+from reference.rows import answer_row
+from words import svg
+from words.borrowed import Answer
+from words.built import TOP
+from words.calls import line_of, split_rows
+from words.drawing import LEFT, TALLEST
+from words.spread import BAND_WIDTH
+from words.streams import Trouble
+from words.testing import record, run_tests
+from words.timeline import pictures
 
-# Of the second program, which borrowed.py has put first in the path.
-from book import Book
-from make_files import make_call_file
-from record import load, save
-from rows import answer_row
-
-HERE = Path(__file__).resolve().parent
-EXAMPLES = HERE.parent / "examples"
+EXAMPLES = TOP / "examples"
 SVG = "{http://www.w3.org/2000/svg}"
 NONE = 255
 READY, RUNNING, FOR_MUTEX, ON_CONDITION_VARIABLE = 1, 2, 3, 4
@@ -400,14 +399,15 @@ class Marks(unittest.TestCase):
     def test_same_bytes_each_time(self) -> None:
         """The same inputs give the same bytes in every process."""
         program = (
-            "import sys, test_timeline as test\n"
+            "import sys\n"
+            "from words import test_timeline as test\n"
             "for ticks in (None, (0, 0)):\n"
             "    sys.stdout.write(''.join(test.pictures(*test.CASE, ticks)))"
         )
         seen: Set[bytes] = set()
         for order in ("1", "2", "3"):
             done = subprocess.run(
-                [sys.executable, "-B", "-c", program], cwd=HERE,
+                [sys.executable, "-B", "-c", program], cwd=TOP,
                 env=dict(os.environ, PYTHONHASHSEED=order),
                 stdout=subprocess.PIPE, check=True,
             )
@@ -1060,6 +1060,45 @@ class Escaped(unittest.TestCase):
                 self.assertEqual(
                     titles(root, kind), [f"row 1: {shown}{refused}"]
                 )
+
+    def test_every_value(self) -> None:
+        """Every text and every value of an attribute says what it was given,
+        whatever that is; control characters are shown as in messages."""
+        for words, shown in (
+            ('"/><script x="', '"/><script x="'), ("a<b>&amp;", "a<b>&amp;"),
+            ("it's \"so\"", "it's \"so\""), ("]]><!--", "]]><!--"),
+            ("\0\x07\x1b[1m\x7f\x85", "\\x00\\x07\\x1b[1m\\x7f\\x85"),
+            ("a\tb\nc\rd", "a\tb\nc\rd"), ("\u6f22 \U0001f600",) * 2,
+            ("\u202e\ufffe\udcff", "\\u202e\\ufffe\\udcff"),
+            ("\\x07 ~!", "\\x07 ~!"),
+        ):
+            self.assertEqual(
+                [("rect", shown, shown, shown), ("path", shown, shown, shown),
+                 ("text", shown, shown, shown)],
+                [self.values(svg.box(words, 0, 0, 1, 1, words, words)),
+                 self.values(svg.path(words, words, words)),
+                 self.values(svg.text(words, 0, 0, words, words))],
+            )
+
+    def values(self, markup: str) -> Tuple[str, ...]:
+        """An element's name, its kind, its other words, what it says."""
+        self.assertTrue(markup.isascii())
+        root = ElementTree.fromstring(markup)
+        other = {"rect": "fill", "path": "d", "text": "transform"}[root.tag]
+        said = root.text if root.tag == "text" else root.findtext("title")
+        return root.tag, root.get("class", ""), root.get(other, ""), said or ""
+
+    def test_names(self) -> None:
+        """No element comes of the calls' words but their own texts."""
+        plain, = pictures(*Run(["x"], [Answer(9, NONE, NONE)], BOOT * 2), None)
+        line = '<g onload="x">&\x07</g><!-- ]]>'
+        text, = pictures(*Run([line], [Answer(9, NONE, NONE)], BOOT * 2), None)
+        self.assertEqual(
+            [(mark.tag, sorted(mark.keys()))
+             for mark in ElementTree.fromstring(text).iter()],
+            [(mark.tag, sorted(mark.keys()))
+             for mark in ElementTree.fromstring(plain).iter()],
+        )
 
     def test_long_line(self) -> None:
         """A line of any length does not stretch the picture."""

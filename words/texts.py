@@ -23,18 +23,18 @@ from typing import (
     Dict, Iterator, List, Mapping, NamedTuple, Optional, Sequence, Tuple,
 )
 
-from answers import ANSWERS, ticks_left
-from borrowed import (
+from words.answers import ANSWERS, ticks_left
+from words.borrowed import (
     CREATE_CONDITION_VARIABLE, CREATE_MUTEX, CREATE_THREAD, CREATE_TIMER,
     NONE, STOP_TIMER, Answer,
 )
-from calls import (
+from words.calls import (
     CONDITION_VARIABLE, FIELDS, FORMS, KINDS, LIMITS, MOST_ROWS, MUTEX, ROW,
     THREAD, TIMER, Names, bounds_of, find_form, form_of,
     guide as guide_of_calls, number_of, rows_of_words, split_rows,
 )
-from streams import Trouble, printable
-from telling import telling
+from words.streams import Trouble, printable
+from words.telling import telling
 
 # Every row of right form has one of these bytes, which no text has: of the
 # codes 1 to 10, 12 and 13 v is unused, so zero bytes; code 11 is byte 0B

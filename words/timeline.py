@@ -15,10 +15,10 @@ from __future__ import annotations
 
 from typing import List, Optional, Sequence, Tuple
 
-from borrowed import TICK_COUNT_ROUND, Answer
-from drawing import Run, Tell, drawn, span, tell_nobody
-from history import History, cut, history_of
-from streams import Trouble
+from words.borrowed import TICK_COUNT_ROUND, Answer
+from words.drawing import Run, Tell, drawn, span, tell_nobody
+from words.history import History, cut, history_of
+from words.streams import Trouble
 
 
 def check_lengths(

@@ -11,7 +11,7 @@ from __future__ import annotations
 
 from typing import Dict, List, Optional
 
-from borrowed import (
+from words.borrowed import (
     NONE, PERIODIC, RUNNING, TIMER_STOPPED, WAITS_FOR_MUTEX,
     WAITS_ON_CONDITION_VARIABLE, Record, TimerEntry, standing,
 )

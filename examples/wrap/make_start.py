@@ -1,18 +1,16 @@
-"""Makes start.record of this example: python3 make_start.py FILE."""
+"""Makes start.record of this example, from the top of the repository.
+
+    python3 -m examples.wrap.make_start FILE
+"""
 
 from __future__ import annotations
 
-import sys
+import argparse
 from pathlib import Path
 
-TOP = Path(__file__).resolve().parent.parent.parent
-sys.path.insert(0, str(TOP / "reference"))
-
-from book import Book, ConditionVariable, Mutex, Thread, Timer  # noqa: E402
-from record import save  # noqa: E402
-from words import (  # noqa: E402
-    PERIODIC, RUNNING, WAITS_ON_CONDITION_VARIABLE,
-)
+from reference.book import Book, ConditionVariable, Mutex, Thread, Timer
+from reference.record import save
+from reference.words import PERIODIC, RUNNING, WAITS_ON_CONDITION_VARIABLE
 
 NOW = 4_294_967_290
 
@@ -30,6 +28,9 @@ def start() -> Book:
 
 
 if __name__ == "__main__":
-    if len(sys.argv) != 2:
-        sys.exit("usage: make_start.py FILE")
-    Path(sys.argv[1]).write_bytes(save(start()))
+    parser = argparse.ArgumentParser(
+        prog="python3 -m examples.wrap.make_start",
+        description="Makes start.record of this example.",
+    )
+    parser.add_argument("file", metavar="FILE", type=Path)
+    parser.parse_args().file.write_bytes(save(start()))

@@ -4,7 +4,7 @@ use mathlib.Core.Path.{_≡_, ap, _∙_}
 use mathlib.Core.Bool.{true, false}
 use lib.Dec.{eqb}
 use borrow.Author.Tests.{eqb-true}
-use Rattle.laws.specs.Bools.{by-cases, cond-true, cond-false}
+use Rattle.laws.proofs.Bools.{by-cases, cond-true, cond-false}
 use Rattle.calls.specs.declared.Call.{Call}
 use Rattle.calls.specs.Answers.{numberOf}
 use Rattle.rules.specs.State.{State}
@@ -13,8 +13,8 @@ use Rattle.rules.specs.Effects.{withScheduler, effect}
 use Rattle.rules.specs.Refusals.{tests, verdictOf}
 use Rattle.rules.specs.Sound.{sound}
 use Rattle.rules.specs.Step.{isTick, after, runner, accepted, refused, stepSound, step}
-use Rattle.soundness.proofs.Keeping.{Clear, passed}
-use Rattle.soundness.proofs.Kept.{sound-steps}
+use Rattle.rules_soundness.proofs.Keeping.{Clear, passed}
+use Rattle.rules_soundness.proofs.Kept.{sound-steps}
 
 -- accepted, with all tests passed, or refused
 pub by-answer : {X : Type 0} (s : State) → sound s ≡ true → (call : Call) → (step s call ≡ accepted s call → Clear (tests (s .scheduler .rows) (s .timers) call) → X)

@@ -7,17 +7,17 @@ use native.Mathlib.Nat.{le-trans}
 use lib.ListN.{length}
 use lib.Dec.{eqb, ltb}
 use borrow.Author.Tests.{eqb-true}
-use Rattle.laws.specs.Bools.{by-cases}
+use Rattle.laws.proofs.Bools.{by-cases}
 use Rattle.rules.specs.Queues as Q
 use Rattle.rules.specs.State.{Where, running, ready, forMutex, onCondition, waits, Rows, Sets, Scheduler, withRows, setAt, firstAt, depart}
 use Rattle.rules.specs.State as S
 use Rattle.rules.specs.Effects.{acquired, passedTo, released, waited, woken, untied, signalledTo, signalled, leaver, signalledTimes, leavers}
-use Rattle.soundness.proofs.Fits.{first-queue}
-use Rattle.soundness.proofs.Rows.{Real, stands-stand, base-below, priority-stand, length-own, length-tie, set-other}
-use Rattle.soundness.proofs.Facts.{Waiter, Queued, low}
-use Rattle.soundness.proofs.Moves.{first-at, first-stands, first-exists, queued-leave, queued-own, queued-tie}
-use Rattle.soundness.proofs.Next.{Kept}
-use Rattle.soundness.proofs.Calls.{Going, Left, nobody-255, stands-there, facts-taken, queued-taken, queued-lands, left-released, left-signalled}
+use Rattle.rules_soundness.proofs.Fits.{first-queue}
+use Rattle.rules_soundness.proofs.Rows.{Real, stands-stand, base-below, priority-stand, length-own, length-tie, set-other}
+use Rattle.rules_soundness.proofs.Facts.{Waiter, Queued, low}
+use Rattle.rules_soundness.proofs.Moves.{first-at, first-stands, first-exists, queued-leave, queued-own, queued-tie}
+use Rattle.rules_soundness.proofs.Next.{Kept}
+use Rattle.rules_soundness.proofs.Calls.{Going, Left, nobody-255, stands-there, facts-taken, queued-taken, queued-lands, left-released, left-signalled}
 use Rattle.book.specs.Book.{Book, Found, nobody, somebody, mutex, tied, own, priority, highestEarliest, arrive}
 use Rattle.book.specs.Turns.{acquire, becomeOwner, handOver, release, tie, wait, leave, untie, wake, signal, signals}
 use Rattle.book.proofs.Alike.{rowsIn, markOf, own-in, Marked, Alike, marked-rows, over, as-book}

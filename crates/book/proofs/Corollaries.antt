@@ -7,19 +7,19 @@ use mathlib.Core.Bool.{true, false, false≢true}
 use mathlib.Core.List.{List}
 use native.Mathlib.Omega.{arith}
 use lib.ListN.{length}
-use Rattle.laws.specs.Bools.{by-cases}
+use Rattle.laws.proofs.Bools.{by-cases}
 use Rattle.calls.specs.declared.Call.{Call}
 use Rattle.calls.specs.declared.Decoded.{Decoded}
 use Rattle.rules.specs.Queues.{queue}
 use Rattle.rules.specs.State.{Where, running, ready, onCondition, same, waits, Thread, Rows, State, thread, mutex, tied, at, priority, setAt}
 use Rattle.rules.specs.Sound.{mem, sound}
 use Rattle.rules.specs.Step.{runner, step}
-use Rattle.soundness.proofs.Fits.{here, here-prio, there}
-use Rattle.soundness.proofs.Rows.{Real, standing-exists}
-use Rattle.soundness.proofs.Facts.{Sound}
-use Rattle.soundness.proofs.Tested.{sound-facts}
-use Rattle.soundness.proofs.Kept.{sound-steps, none-ready-above}
-use Rattle.pages.proofs.Places.{same-running, stands-at, at-stands}
+use Rattle.rules_soundness.proofs.Fits.{here, here-prio, there}
+use Rattle.rules_soundness.proofs.Rows.{Real, standing-exists}
+use Rattle.rules_soundness.proofs.Facts.{Sound}
+use Rattle.rules_soundness.proofs.Tested.{sound-facts}
+use Rattle.rules_soundness.proofs.Kept.{sound-steps, none-ready-above}
+use Rattle.rules_pages.proofs.Places.{same-running, stands-at, at-stands}
 use Rattle.rules.specs.Page.{pageOf}
 use Rattle.book.specs.Book.{Book, standsAt}
 use Rattle.book.specs.Turns.{turn}

@@ -8,8 +8,8 @@ use native.Mathlib.Omega.{arith}
 use lib.ListN.{length, set}
 use lib.Dec.{eqb, ltb, leb}
 use borrow.Author.Tests.{eqb-true, eqb-false, eq-eqb, ne-eqb, ltb-false, leb-false, not-false}
-use Rattle.laws.specs.Bools.{nor-left, nor-right}
-use Rattle.laws.specs.Lists.{map-set}
+use Rattle.laws.proofs.Bools.{nor-left, nor-right}
+use Rattle.laws.proofs.Lists.{map-set}
 use Rattle.units.specs.Units.{ticksIn}
 use Rattle.calls.specs.declared.Call.{Call}
 use Rattle.calls.specs.declared.Call.the-variants.{Start, CreateThread, CreateMutex, CreateCondition, CreateTimer, Acquire, Release, Wait, Signal, Broadcast, StartTimer, StopTimer, Tick}
@@ -23,13 +23,13 @@ use Rattle.rules.specs.Next as N
 use Rattle.rules.specs.Effects.{threadCreated, mutexCreated, conditionCreated, acquired, released, waited, signalled, signalledTimes, leavers, stateOf, lengthKept, startedTimer, ticked, dueConditions, signalledEach, nextCount, withScheduler, effect, given}
 use Rattle.rules.specs.Effects as E
 use Rattle.rules.specs.Refusals.{tests}
-use Rattle.soundness.proofs.Tests.{within}
-use Rattle.soundness.proofs.Facts.{Sound}
-use Rattle.soundness.proofs.Next.{Kept, Turned, Chosen, facts-handed, queued-handed, first-runs}
-use Rattle.soundness.proofs.Calls.{Going, turned-going, Left, left-turned, AllBelow, left-acquired, left-released, left-waited, left-signalled, left-times, left-each}
-use Rattle.soundness.proofs.Creating.{kept-thread, kept-mutex, kept-condition, going-thread}
-use Rattle.soundness.proofs.Timers.{due-below}
-use Rattle.soundness.proofs.Keeping.{Clear, kept, going}
+use Rattle.rules_soundness.proofs.Tests.{within}
+use Rattle.rules_soundness.proofs.Facts.{Sound}
+use Rattle.rules_soundness.proofs.Next.{Kept, Turned, Chosen, facts-handed, queued-handed, first-runs}
+use Rattle.rules_soundness.proofs.Calls.{Going, turned-going, Left, left-turned, AllBelow, left-acquired, left-released, left-waited, left-signalled, left-times, left-each}
+use Rattle.rules_soundness.proofs.Creating.{kept-thread, kept-mutex, kept-condition, going-thread}
+use Rattle.rules_soundness.proofs.Timers.{due-below}
+use Rattle.rules_soundness.proofs.Keeping.{Clear, kept, going}
 use Rattle.book.specs.Book.{Book, Timer, stoppedTimer, withTimers, nowStarted, nextTick, highestEarliest}
 use Rattle.book.specs.Turns.{Outcome, runFirst, createThread, acquire, release, wait, signal, signals, kindState, kindLength, expireBelow, outcome}
 use Rattle.book.proofs.Alike.{Alike, threads-alike}

@@ -7,8 +7,8 @@ use lib.ListN.{length}
 use lib.Seq.{set-out}
 use lib.Dec.{eqb}
 use borrow.Author.Tests.{eqb-false}
-use Rattle.laws.specs.Bools.{by-cases, refuted}
-use Rattle.laws.specs.Lists.{by-below}
+use Rattle.laws.proofs.Bools.{by-cases, refuted}
+use Rattle.laws.proofs.Lists.{by-below}
 use Rattle.calls.specs.declared.Call.{Call}
 use Rattle.calls.specs.declared.Call.the-variants.{Broadcast}
 use Rattle.calls.specs.Answers.{numberOf}
@@ -20,10 +20,10 @@ use Rattle.rules.specs.Refusals.{tests, verdictOf}
 use Rattle.rules.specs.Sound.{sound}
 use Rattle.rules.specs.Step.{Stepped, isTick, after, step}
 use Rattle.rules.specs.Page.{pageOf}
-use Rattle.soundness.proofs.Rows.{at-stand}
-use Rattle.soundness.proofs.Choice.{choice}
-use Rattle.soundness.proofs.Tested.{sound-facts}
-use Rattle.soundness.proofs.Keeping.{Clear}
+use Rattle.rules_soundness.proofs.Rows.{at-stand}
+use Rattle.rules_soundness.proofs.Choice.{choice}
+use Rattle.rules_soundness.proofs.Tested.{sound-facts}
+use Rattle.rules_soundness.proofs.Keeping.{Clear}
 use Rattle.book.specs.Book as book
 use Rattle.book.specs.Book.{Book, standsAt, highestEarliest}
 use Rattle.book.specs.Turns.{signals, outcome}

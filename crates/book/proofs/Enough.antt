@@ -9,11 +9,11 @@ use lib.ListN.{length, length-set}
 use lib.Dec.{eqb}
 use lib.IntN.{ℤ}
 use borrow.Author.Tests.{eqb-true, eqb-false}
-use Rattle.laws.specs.Bools.{by-cases, self}
-use Rattle.laws.specs.Lists.{by-equal}
+use Rattle.laws.proofs.Bools.{by-cases, self}
+use Rattle.laws.proofs.Lists.{by-equal}
 use Rattle.rules.specs.State.{Where, ready, forMutex, onCondition, same}
 use Rattle.rules.specs.Page.{howMany}
-use Rattle.pages.proofs.Counts.{many-more}
+use Rattle.rules_pages.proofs.Counts.{many-more}
 use Rattle.book.specs.Book.{Book, Thread, Found, nobody, somebody, thread, mutex, tied, own, stand, above, marksFor, standsAt, highestEarliest, arrive}
 use Rattle.book.specs.Turns.{Outcome, becomeOwner, tie, leave, untie, wake, signal, signals}
 use Rattle.book.proofs.Alike.{thread-moved, thread-other}

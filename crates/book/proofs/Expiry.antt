@@ -10,8 +10,8 @@ use lib.ListN.{length, length-set, length-map, length-append, List·getD-map, Li
 use lib.Seq.{getD-set-same, getD-set-other}
 use lib.Dec.{eqb, leb}
 use borrow.Author.Tests.{eqb-false, eq-eqb, ne-eqb, leb-false}
-use Rattle.laws.specs.Bools.{by-cases, no-way, nor-left, and-true, and-false}
-use Rattle.laws.specs.Lists.{by-equal}
+use Rattle.laws.proofs.Bools.{by-cases, no-way, nor-left, and-true, and-false}
+use Rattle.laws.proofs.Lists.{by-equal}
 use Rattle.units.specs.Units.{ticksIn, repeatOf}
 use Rattle.units.proofs.Lengths.{never-early}
 use Rattle.units.specs.declared.Micros.{Micros}
@@ -27,8 +27,8 @@ use Rattle.rules.specs.Effects.{goes, stateOf, startedTimer, isDue, afterDue, t
 use Rattle.rules.specs.Refusals.{tests, verdictOf}
 use Rattle.rules.specs.Sound.{mem, sound}
 use Rattle.rules.specs.Step.{Stepped, after, step, stepDecoded}
-use Rattle.soundness.proofs.Keeping.{Clear}
-use Rattle.soundness.proofs.Kept.{soundness-is-kept, decoded-keeps}
+use Rattle.rules_soundness.proofs.Keeping.{Clear}
+use Rattle.rules_soundness.proofs.Kept.{soundness-is-kept, decoded-keeps}
 use Rattle.book.specs.Answers.{answersOf, finalOf}
 use Rattle.book.specs.History.{callNumber, accepts, ticksTaken, NeverStops, dueFrom, expiring, Expires, TickExpires, repeating, phase}
 use Rattle.book.proofs.Accepted.{by-answer, after-unchosen}

@@ -10,7 +10,7 @@ use native.Mathlib.Omega.{arith}
 use lib.ListN.{getD, length, length-set, length-map, length-append}
 use lib.Dec.{eqb}
 use borrow.Author.Tests.{eqb-true, ne-eqb}
-use Rattle.laws.specs.Bools.{no-way, and-true, and-false, cond-false}
+use Rattle.laws.proofs.Bools.{no-way, and-true, and-false, cond-false}
 use Rattle.units.specs.Units.{ticksIn}
 use Rattle.calls.specs.declared.Call.{Call}
 use Rattle.calls.specs.declared.Call.the-variants.{Start, CreateThread, CreateMutex, CreateCondition, CreateTimer, Acquire, Release, Wait, Signal, Broadcast, StartTimer, StopTimer, Tick}
@@ -21,8 +21,8 @@ use Rattle.rules.specs.Next.{chooseNext}
 use Rattle.rules.specs.Effects.{startedTimer, ticked, threadCreated, mutexCreated, conditionCreated, dueConditions, withScheduler, withTimers, effect, given}
 use Rattle.rules.specs.Sound.{sound}
 use Rattle.rules.specs.Step.{Stepped, isTick, after, step, stepDecoded}
-use Rattle.soundness.proofs.Sizes.{Sizes, sizes-same, sizes-arrive, sizes-first, sizes-next, sizes-acquired, sizes-released, sizes-waited, sizes-signalled, sizes-times, sizes-each}
-use Rattle.soundness.proofs.Kept.{decoded-keeps}
+use Rattle.rules_soundness.proofs.Sizes.{Sizes, sizes-same, sizes-arrive, sizes-first, sizes-next, sizes-acquired, sizes-released, sizes-waited, sizes-signalled, sizes-times, sizes-each}
+use Rattle.rules_soundness.proofs.Kept.{decoded-keeps}
 use Rattle.book.specs.Answers.{answersOf, finalOf}
 use Rattle.book.specs.History.{callNumber, accepts, Table, threads, mutexes, conditions, timers, creator, size, idsGiven, upFrom}
 use Rattle.book.proofs.Accepted.{by-answer, after-unchosen}

@@ -10,15 +10,15 @@ use lib.Seq.{set-getD}
 use lib.Dec.{eqb}
 use lib.IntN.{ℤ}
 use borrow.Author.Tests.{eq-eqb, ne-eqb}
-use Rattle.laws.specs.Bools.{no-way, and-both, cond-false}
+use Rattle.laws.proofs.Bools.{no-way, and-both, cond-false}
 use Rattle.rules.specs.Queues.{queue, toBack, toFront, firstLeaves}
 use Rattle.rules.specs.State.{Where, running, ready, Rows, Sets, Scheduler, withRows, setAt, putSet}
 use Rattle.rules.specs.State as S
 use Rattle.rules.specs.Sound.{mem}
-use Rattle.soundness.proofs.Fits.{Ordered, here, here-prio}
-use Rattle.soundness.proofs.Rows.{Real, not-running, standing-exists, at-stand, priority-stand, length-stand, length-own, length-tie}
-use Rattle.soundness.proofs.Facts.{Queued}
-use Rattle.soundness.proofs.Calls.{stands-there}
+use Rattle.rules_soundness.proofs.Fits.{Ordered, here, here-prio}
+use Rattle.rules_soundness.proofs.Rows.{Real, not-running, standing-exists, at-stand, priority-stand, length-stand, length-own, length-tie}
+use Rattle.rules_soundness.proofs.Facts.{Queued}
+use Rattle.rules_soundness.proofs.Calls.{stands-there}
 use Rattle.book.specs.Book.{Book, thread, stand, own, priority, standsAt, there, above, below, marksFor, arrive, arriveInFront}
 use Rattle.book.specs.Turns.{tie}
 use Rattle.book.proofs.Marks.{under-above, over-below}

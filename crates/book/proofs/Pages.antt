@@ -10,23 +10,24 @@ use lib.Dec.{eqb}
 use lib.IntN.{ℤ, pos}
 use lib.Signed.{ltZ}
 use borrow.Author.Tests.{ne-eqb, lt-ltb}
-use Rattle.laws.specs.Bools.{by-cases, cond-true, cond-false}
-use Rattle.laws.specs.Lists.{by-equal, tabulate, tabulate-same, getD-tabulate}
+use Rattle.laws.specs.Lists.{tabulate}
+use Rattle.laws.proofs.Bools.{by-cases, cond-true, cond-false}
+use Rattle.laws.proofs.Lists.{by-equal, tabulate-same, getD-tabulate}
 use Rattle.rules.specs.Queues.{queue}
 use Rattle.rules.specs.State.{Where, running, ready, forMutex, onCondition, same, TimerState, stopped, oneShot, periodic, Rows, Scheduler, State, setAt, boot}
 use Rattle.rules.specs.State as S
 use Rattle.rules.specs.Sound.{mem, sound}
 use Rattle.rules.specs.Page.{ThreadRow, TimerRow, Page, noRow, threadRow, whereOf, threadOf, runnerFrom, rowsOf, describedBy, howMany, stateCode, objectCode, timerCode, ahead, placeAt, rowAt, timerRowOf, pageFormed, pageSound, pageOf}
-use Rattle.soundness.proofs.Fits.{ordered-mono, here, here-prio}
-use Rattle.soundness.proofs.Fits as F
-use Rattle.soundness.proofs.Rows.{Real, not-running, standing-exists}
-use Rattle.soundness.proofs.Facts.{Sound, low}
-use Rattle.soundness.proofs.Tested.{sound-facts}
-use Rattle.soundness.proofs.Kept.{boot-is-sound}
-use Rattle.pages.proofs.Counts.{many-same}
-use Rattle.pages.proofs.Order.{ahead-ordered, ahead-by}
-use Rattle.pages.proofs.Places.{same-running, stands-at, at-stands, not-run}
-use Rattle.pages.proofs.Pages.{page-of-sound, described-is-sound, boot-page}
+use Rattle.rules_soundness.proofs.Fits.{ordered-mono, here, here-prio}
+use Rattle.rules_soundness.proofs.Fits as F
+use Rattle.rules_soundness.proofs.Rows.{Real, not-running, standing-exists}
+use Rattle.rules_soundness.proofs.Facts.{Sound, low}
+use Rattle.rules_soundness.proofs.Tested.{sound-facts}
+use Rattle.rules_soundness.proofs.Kept.{boot-is-sound}
+use Rattle.rules_pages.proofs.Counts.{many-same}
+use Rattle.rules_pages.proofs.Order.{ahead-ordered, ahead-by}
+use Rattle.rules_pages.proofs.Places.{same-running, stands-at, at-stands, not-run}
+use Rattle.rules_pages.proofs.Pages.{page-of-sound, described-is-sound, boot-page}
 use Rattle.book.specs.Book.{Book, Thread, thread, priority, standsAt, there}
 use Rattle.book.specs.Book as B
 use Rattle.book.specs.Shown.{bookBoot, placeOf, kindOf, enterThread, enterTimer, runningIn, enter, stateNumber, objectNumber, kindNumber, lower, placeIn, showThread, showTimer, show}

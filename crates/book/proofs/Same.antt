@@ -6,14 +6,14 @@ use mathlib.Core.Bool.{cond}
 use mathlib.Core.List.{List, map}
 use native.Mathlib.Omega.{arith}
 use lib.ListN.{length, getD, length-map, List·getD-map}
-use Rattle.laws.specs.Bools.{by-cases, cond-true, cond-false}
+use Rattle.laws.proofs.Bools.{by-cases, cond-true, cond-false}
 use Rattle.calls.specs.declared.Call.{Call}
 use Rattle.calls.specs.declared.Call.the-variants.{Start, CreateThread, CreateMutex, CreateCondition, CreateTimer, Acquire, Release, Wait, Signal, Broadcast, StartTimer, StopTimer, Tick}
 use Rattle.rules.specs.State.{stopped, Rows, State}
 use Rattle.rules.specs.State as S
 use Rattle.rules.specs.Refusals.{tests, verdictOf}
 use Rattle.rules.specs.Refusals as R
-use Rattle.soundness.proofs.Facts.{Sound}
+use Rattle.rules_soundness.proofs.Facts.{Sound}
 use Rattle.book.specs.Book.{Book, timer, stoppedTimer}
 use Rattle.book.specs.Turns.{verdict}
 use Rattle.book.proofs.Alike.{rowsIn, threads-in, priority-in, owned-in, Alike}

@@ -6,7 +6,7 @@ use mathlib.Core.Bool.{Bool, true, false, cond}
 use mathlib.Core.List.{map}
 use lib.Dec.{eqb}
 use borrow.Author.Tests.{eqb-true}
-use Rattle.laws.specs.Bools.{by-cases, cond-true, cond-false}
+use Rattle.laws.proofs.Bools.{by-cases, cond-true, cond-false}
 use Rattle.calls.specs.declared.Call.{Call}
 use Rattle.calls.specs.declared.Call.the-variants.{Start, CreateThread, CreateMutex, CreateCondition, CreateTimer, Acquire, Release, Wait, Signal, Broadcast, StartTimer, StopTimer, Tick}
 use Rattle.calls.specs.declared.Decoded.{Decoded}
@@ -20,10 +20,10 @@ use Rattle.rules.specs.Refusals.{verdictOf}
 use Rattle.rules.specs.Sound.{sound}
 use Rattle.rules.specs.Step.{Stepped, after, runner, accepted, refused, stepSound, stepDecoded}
 use Rattle.rules.specs.Step as T
-use Rattle.soundness.proofs.Facts.{Sound}
-use Rattle.soundness.proofs.Tested.{sound-facts}
-use Rattle.soundness.proofs.Keeping.{passed, sound-stays}
-use Rattle.soundness.proofs.Kept.{sound-steps}
+use Rattle.rules_soundness.proofs.Facts.{Sound}
+use Rattle.rules_soundness.proofs.Tested.{sound-facts}
+use Rattle.rules_soundness.proofs.Keeping.{passed, sound-stays}
+use Rattle.rules_soundness.proofs.Kept.{sound-steps}
 use Rattle.book.specs.Book.{Book}
 use Rattle.book.specs.Turns.{Turn, verdict, outcome, runNext, isTick, answered, turn, turnOf}
 use Rattle.book.proofs.Timers.{leftAt, timeless-next}

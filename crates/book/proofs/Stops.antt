@@ -8,8 +8,8 @@ use mathlib.Core.List.{List}
 use native.Mathlib.Omega.{arith}
 use lib.ListN.{length, List·getD-eq-default}
 use borrow.Author.Tests.{eqb-false, lt-leb, not-false}
-use Rattle.laws.specs.Bools.{by-cases, no-way}
-use Rattle.laws.specs.Lists.{by-below}
+use Rattle.laws.proofs.Bools.{by-cases, no-way}
+use Rattle.laws.proofs.Lists.{by-below}
 use Rattle.units.specs.Units.{ticksIn, repeatOf}
 use Rattle.units.specs.declared.Micros.{Micros}
 use Rattle.calls.specs.declared.Call.the-variants.{StartTimer, StopTimer}
@@ -23,9 +23,9 @@ use Rattle.rules.specs.Effects.{goes, given}
 use Rattle.rules.specs.Refusals.{tests, verdictOf}
 use Rattle.rules.specs.Sound.{sound}
 use Rattle.rules.specs.Step.{Stepped, step}
-use Rattle.soundness.proofs.Tested.{sound-facts}
-use Rattle.soundness.proofs.Kept.{soundness-is-kept}
-use Rattle.soundness.proofs.Timers.{Goes, timer-at, going-timer, none-goes-at}
+use Rattle.rules_soundness.proofs.Tested.{sound-facts}
+use Rattle.rules_soundness.proofs.Kept.{soundness-is-kept}
+use Rattle.rules_soundness.proofs.Timers.{Goes, timer-at, going-timer, none-goes-at}
 use Rattle.book.specs.Answers.{answersOf, finalOf}
 use Rattle.book.specs.History.{ticksTaken, NeverStops, repeating, phase, GivesTicks}
 use Rattle.book.proofs.Accepted.{by-answer}

@@ -10,13 +10,13 @@ use lib.ListN.{length, getD, set, take, length-map, length-append, List·getD-ma
 use lib.Seq.{set-getD, take-all}
 use lib.Dec.{eqb, ltb}
 use borrow.Author.Tests.{eqb-true, eq-eqb, ne-eqb}
-use Rattle.laws.specs.Bools.{by-cases, and-left, and-right}
-use Rattle.laws.specs.Lists.{by-equal}
+use Rattle.laws.proofs.Bools.{by-cases, and-left, and-right}
+use Rattle.laws.proofs.Lists.{by-equal}
 use Rattle.rules.specs.State.{TimerState, stopped, oneShot, periodic, Scheduler}
 use Rattle.rules.specs.State as S
 use Rattle.rules.specs.Effects.{goes, isDue, afterDue, ticked, dueConditions, signalled, signalledEach}
-use Rattle.soundness.proofs.Next.{Kept}
-use Rattle.soundness.proofs.Calls.{Going, Left, AllBelow, left-each}
+use Rattle.rules_soundness.proofs.Next.{Kept}
+use Rattle.rules_soundness.proofs.Calls.{Going, Left, AllBelow, left-each}
 use Rattle.book.specs.Book.{Book, Timer, Found, nobody, somebody, mutex, tied, timer, stoppedTimer, withTimers, nextTick, stand, own, priority, standsAt, highestEarliest, arrive, arriveInFront}
 use Rattle.book.specs.Turns.{runs, run, runFirst, acquire, becomeOwner, handOver, release, tie, wait, leave, untie, wake, signal, signals, renewed, expire, expireBelow, turnTo, runNext}
 use Rattle.book.proofs.Alike.{Alike}

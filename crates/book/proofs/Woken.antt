@@ -12,13 +12,13 @@ use lib.Seq.{getD-set-same, getD-set-other}
 use lib.Dec.{eqb, ltb}
 use lib.IntN.{ℤ, pos}
 use borrow.Author.Tests.{eqb-true}
-use Rattle.laws.specs.Bools.{by-cases, no-way}
-use Rattle.laws.specs.Lists.{by-equal, by-below}
+use Rattle.laws.proofs.Bools.{by-cases, no-way}
+use Rattle.laws.proofs.Lists.{by-equal, by-below}
 use Rattle.calls.specs.declared.Call.{Call}
 use Rattle.calls.specs.declared.Call.the-variants.{Start, CreateThread, CreateMutex, CreateCondition, CreateTimer, Acquire, Release, Wait, Signal, Broadcast, StartTimer, StopTimer, Tick}
 use Rattle.calls.specs.Answers.{numberOf}
 use Rattle.rules.specs.State.{Where, running, ready, forMutex, onCondition, same, waits, Mutex}
-use Rattle.soundness.proofs.Rows.{same-true, same-self}
+use Rattle.rules_soundness.proofs.Rows.{same-true, same-self}
 use Rattle.book.specs.Book.{Book, noThread, noMutex, Thread, Found, nobody, somebody, thread, mutex, tied, timer, withTimers, nextTick, nowStarted, stand, own, priority, standsAt, better, firstBelow, highestEarliest, above, below, marksFor, arrive, arriveInFront}
 use Rattle.book.specs.Turns.{runs, run, runFirst, createThread, acquire, becomeOwner, handOver, release, tie, wait, leave, untie, wake, signal, signals, renewed, expire, expireBelow, verdict, outcome, turnTo, runNext, isTick, turn}
 use Rattle.book.proofs.Alike.{thread-moved, thread-other}

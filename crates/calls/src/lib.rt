@@ -8,6 +8,21 @@ ghost use lib.Dec.{eqb};
 ghost use Rattle.calls.specs.Answers.{numberOf};
 ghost use Rattle.calls.specs.Rows.{fits, taken, kindOf, vOf, decoded, namesNone, namesA, namesAB, namesAll};
 
+// The bytes of a row.
+pub const ROW: usize = 8;
+
+// A row, not yet taken apart.
+pub type Row = [u8; ROW];
+
+// What the second byte of a number counts.
+const SECOND: u32 = 256;
+
+// What the third byte counts.
+const THIRD: u32 = 65536;
+
+// What the fourth byte counts.
+const FOURTH: u32 = 16777216;
+
 // One-shot or periodic.
 pub enum Kind {
     OneShot,
@@ -108,14 +123,14 @@ fn wide(x: u8) -> u32
 }
 
 // The number v of a row, low byte first.
-fn number_of_row(row: [u8; 8]) -> u32
+fn number_of_row(row: Row) -> u32
     ensures { λ r. ⌜ r ≡ vOf row ⌝ }
 {
     let first = wide(row[4]);
     let second = wide(row[5]);
     let third = wide(row[6]);
     let fourth = wide(row[7]);
-    first + second * 256 + third * 65536 + fourth * 16777216
+    first + second * SECOND + third * THIRD + fourth * FOURTH
 }
 
 // Whether a field is named or 0.
@@ -129,7 +144,7 @@ fn named_or_zero(named: bool, field: u32) -> bool
 }
 
 // Whether the fields that are not named are 0, and kind is 0 or 1.
-fn fits(named: Named, row: [u8; 8]) -> bool
+fn fits(named: Named, row: Row) -> bool
     ensures { λ r. ⌜ r ≡ fits named row ⌝ }
 {
     let a = named_or_zero(named.a, wide(row[1]));
@@ -140,7 +155,7 @@ fn fits(named: Named, row: [u8; 8]) -> bool
 }
 
 // The call, if the fields that it does not name are 0.
-fn taken(named: Named, call: Call, row: [u8; 8]) -> Decoded
+fn taken(named: Named, call: Call, row: Row) -> Decoded
     ensures { λ r. ⌜ r ≡ taken named call row ⌝ }
 {
     if fits(named, row) {
@@ -162,7 +177,7 @@ fn kind_of(kind: u8) -> Kind
 }
 
 // A call that names no field.
-fn naming_none(call: Call, row: [u8; 8]) -> Decoded
+fn naming_none(call: Call, row: Row) -> Decoded
     ensures { λ r. ⌜ r ≡ taken namesNone call row ⌝ }
 {
     let named = Named {
@@ -175,7 +190,7 @@ fn naming_none(call: Call, row: [u8; 8]) -> Decoded
 }
 
 // A call that names a.
-fn naming_a(call: Call, row: [u8; 8]) -> Decoded
+fn naming_a(call: Call, row: Row) -> Decoded
     ensures { λ r. ⌜ r ≡ taken namesA call row ⌝ }
 {
     let named = Named {
@@ -188,7 +203,7 @@ fn naming_a(call: Call, row: [u8; 8]) -> Decoded
 }
 
 // A call that names a and b.
-fn naming_ab(call: Call, row: [u8; 8]) -> Decoded
+fn naming_ab(call: Call, row: Row) -> Decoded
     ensures { λ r. ⌜ r ≡ taken namesAB call row ⌝ }
 {
     let named = Named {
@@ -201,7 +216,7 @@ fn naming_ab(call: Call, row: [u8; 8]) -> Decoded
 }
 
 // A call that names a, b, kind and v.
-fn naming_all(call: Call, row: [u8; 8]) -> Decoded
+fn naming_all(call: Call, row: Row) -> Decoded
     ensures { λ r. ⌜ r ≡ taken namesAll call row ⌝ }
 {
     let named = Named {
@@ -214,7 +229,7 @@ fn naming_all(call: Call, row: [u8; 8]) -> Decoded
 }
 
 // A row taken apart.
-pub fn decode(row: [u8; 8]) -> Decoded
+pub fn decode(row: Row) -> Decoded
     ensures { λ r. ⌜ r ≡ decoded row ⌝ }
 {
     let code = row[0];

@@ -15,23 +15,23 @@ use Rattle.calls.specs.Answers.{numberOf}
 use Rattle.rules.specs.State.{State, boot}
 use Rattle.rules.specs.Sound.{sound}
 use Rattle.rules.specs.Step.{stepDecoded}
-use Rattle.soundness.proofs.Kept.{decoded-keeps, boot-is-sound}
+use Rattle.rules_soundness.proofs.Kept.{decoded-keeps, boot-is-sound}
 use Rattle.book.specs.Book.{Book}
 use Rattle.book.specs.Shown.{bookBoot, enter}
 use Rattle.book.specs.Answers.{answersOf, finalOf}
 use Rattle.book.proofs.Demand.{rows-keep}
-use Rattle.saved.specs.Record.{pageIn}
-use Rattle.saved.specs.Loading.{load, saved}
-use Rattle.saved.proofs.Loading.{loaded-is-sound, save-done}
-use Rattle.saved.specs.Demand.{EqualBytes}
-use Rattle.saved.proofs.Demand.{demand-3-records, demand-3-records-from-boot}
+use Rattle.record_bytes.specs.Record.{pageIn}
+use Rattle.record_bytes.specs.Loading.{load, saved}
+use Rattle.record_bytes.proofs.Loading.{loaded-is-sound, save-done}
+use Rattle.record_bytes.specs.Demand.{EqualBytes}
+use Rattle.record_bytes.proofs.Demand.{demand-3-records, demand-3-records-from-boot}
 use Rattle.kernel.specs.declared.Kernel.{Kernel}
 use Rattle.kernel.specs.declared.Stepped.{Stepped}
 use Rattle.kernel.specs.Kernels.{kernelOf, steppedOf}
 use Rattle.kernel.proofs.Promised.{steps-met}
 use Rattle.record.specs.declared.Loaded.{Loaded}
 use Rattle.record.specs.Records.{loadedOf, savedOf}
-use Rattle.demand.specs.Repeated.{Repeats, SavesRecord, Agrees}
+use Rattle.demand.specs.Demand.{Repeats, SavesRecord, Agrees, Demand3}
 
 -- ---- any number of calls and rows
 
@@ -108,3 +108,7 @@ pub kernel-agrees-from-record : (bytes : List ℕ) (l : Loaded) → l ≡ loaded
 kernel-agrees-from-record bytes l d z =
     let loads = zero-is-done (load bytes .answer) (sym (ap (λ (k : Loaded). k .answer) d) ∙ z) in
     agree (load bytes .state) (enter (pageIn bytes)) (loaded-is-sound bytes) (demand-3-records bytes loads) (l .kernel) (ap (λ (k : Loaded). k .kernel) d)
+
+-- the kernel agrees with the plain book, from boot and from a record, through any number of calls and rows
+pub kernel-agrees-with-the-book : Demand3
+kernel-agrees-with-the-book = record { from-boot = kernel-agrees-from-boot; from-record = kernel-agrees-from-record; allowed = run-exists }

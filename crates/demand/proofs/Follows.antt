@@ -12,8 +12,8 @@ use native.Mathlib.Omega.{arith}
 use lib.ListN.{length}
 use lib.Dec.{eqb}
 use borrow.Author.Tests.{eqb-false}
-use Rattle.laws.specs.Bools.{self}
-use Rattle.laws.specs.Lists.{getD-tabulate}
+use Rattle.laws.proofs.Bools.{self}
+use Rattle.laws.proofs.Lists.{getD-tabulate}
 use Rattle.units.specs.declared.Micros.{Micros}
 use Rattle.units.specs.Units.{ticksIn, repeatOf}
 use Rattle.calls.specs.declared.Answer.{Answer}
@@ -30,12 +30,12 @@ use Rattle.rules.specs.Refusals.{verdictOf}
 use Rattle.rules.specs.Sound.{sound}
 use Rattle.rules.specs.Step as step
 use Rattle.rules.specs.Step.{runner, accepted, stepDecoded}
-use Rattle.soundness.proofs.Tested.{sound-facts}
-use Rattle.soundness.proofs.Kept.{soundness-is-kept, none-ready-above}
-use Rattle.parts.specs.declared.Thread.{Thread}
-use Rattle.parts.specs.Models.{blank}
-use Rattle.meaning.specs.Stands.{threadIn, threadsOf, schedulerOf}
-use Rattle.engine.specs.Stands.{engineOf}
+use Rattle.rules_soundness.proofs.Tested.{sound-facts}
+use Rattle.rules_soundness.proofs.Kept.{soundness-is-kept, none-ready-above}
+use Rattle.value_tables.specs.declared.Thread.{Thread}
+use Rattle.value_tables.specs.Tables.{blank}
+use Rattle.value_meaning.specs.Stands.{threadIn, threadsOf, schedulerOf}
+use Rattle.value_engine.specs.Stands.{engineOf}
 use Rattle.book.specs.Answers.{answersOf, finalOf}
 use Rattle.book.specs.History.{ticksTaken, NeverStops, Expires, repeating, GivesTicks, Table, threads, mutexes, conditions, timers, size, idsGiven, upFrom}
 use Rattle.book.proofs.Accepted.{by-answer}
@@ -48,7 +48,7 @@ use Rattle.kernel.specs.declared.Kernel.{Kernel}
 use Rattle.kernel.specs.declared.Stepped.{Stepped}
 use Rattle.kernel.specs.Kernels.{kernelOf, SoundKernel, steppedOf, Steps}
 use Rattle.kernel.proofs.Sound.{state-sound, sound-state}
-use Rattle.demand.specs.Repeated.{Repeats}
+use Rattle.demand.specs.Demand.{Repeats}
 use Rattle.demand.specs.Follows.{rowAt, NoneAbove, sizeIn, NobodyWaits, TickGives}
 use Rattle.demand.proofs.Demand.{rows-step}
 

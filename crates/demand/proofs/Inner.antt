@@ -8,12 +8,12 @@ use Rattle.calls.specs.declared.Answer.{Answer}
 use Rattle.calls.specs.Rows.{decoded}
 use Rattle.rules.specs.State.{State}
 use Rattle.rules.specs.Sound.{sound}
-use Rattle.engine.specs.Stands.{engineOf}
-use Rattle.lines.specs.Inner.{innerAnswers, innerFinal}
-use Rattle.lines.proofs.Inner.{inner-rows-step}
+use Rattle.value_engine.specs.Stands.{engineOf}
+use Rattle.run_lines.specs.Inner.{innerAnswers, innerFinal}
+use Rattle.run_lines.proofs.Inner.{inner-rows-step}
 use Rattle.kernel.specs.declared.Kernel.{Kernel}
 use Rattle.kernel.specs.Kernels.{kernelOf}
-use Rattle.demand.specs.Repeated.{Repeats}
+use Rattle.demand.specs.Demand.{Repeats}
 use Rattle.demand.proofs.Demand.{rows-step}
 
 -- the answers and the kernel after them are the same

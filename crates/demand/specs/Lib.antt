@@ -1,2 +1,2 @@
-pub mod Repeated
+pub mod Demand
 pub mod Follows

@@ -1,1 +1,1 @@
-// Demand 3 for the code: the kernel's row step repeated, with what load and save give, against the plain book. There is no code here.
+// Demand 3 for the code: the kernel's calls and rows repeated, with what load and save give, against the plain book. There is no code here.

@@ -3,19 +3,19 @@
 use mathlib.Core.Path.{_≡_, refl, sym, ap, _∙_}
 use mathlib.Core.Logic.{_⊎_, inl, inr, _↔_}
 use mathlib.Core.Bool.{Bool, true, false, true≢false}
-use Rattle.laws.specs.Bools.{by-cases}
+use Rattle.laws.proofs.Bools.{by-cases}
 use Rattle.calls.specs.declared.Decoded.{Decoded}
 use Rattle.calls.specs.Answers.{numberOf}
 use Rattle.rules.specs.State.{State}
 use Rattle.rules.specs.Sound.{sound}
 use Rattle.rules.specs.Step.{stepDecoded}
-use Rattle.engine.specs.declared.Stepped as engine
-use Rattle.engine.specs.Stands as stands
-use Rattle.engine.specs.Stands.{engineOf}
-use Rattle.alike.specs.Tests.{sameEngine}
-use Rattle.alike.proofs.Deciding.{engines-exactly}
-use Rattle.describe.specs.Models.{describeModel}
-use Rattle.build.specs.Models.{buildModel}
+use Rattle.value_engine.specs.declared.Stepped as engine
+use Rattle.value_engine.specs.Stands as stands
+use Rattle.value_engine.specs.Stands.{engineOf}
+use Rattle.sound_alike.specs.Tests.{sameEngine}
+use Rattle.sound_alike.proofs.Deciding.{engines-exactly}
+use Rattle.page_describing.specs.Describing.{describeModel}
+use Rattle.page_building.specs.Building.{buildModel}
 use Rattle.kernel.specs.declared.Kernel.{Kernel}
 use Rattle.kernel.specs.declared.Stepped.{Stepped}
 use Rattle.kernel.specs.Kernels.{SoundKernel, steppedOf, refusal, unsoundVerdict, Steps}

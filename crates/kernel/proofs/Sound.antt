@@ -6,20 +6,20 @@ use mathlib.Core.Path.{_≡_, sym, ap, _∙_, subst}
 use mathlib.Core.Logic.{_↔_}
 use mathlib.Core.Bool.{Bool, true, false, _&&_, true≢false}
 use lib.ListN.{length-map}
-use Rattle.laws.specs.Bools.{and-left, and-right, and-both}
+use Rattle.laws.proofs.Bools.{and-left, and-right, and-both}
 use Rattle.rules.specs.State.{State}
 use Rattle.rules.specs.Sound.{sound}
 use Rattle.rules.specs.Page.{Page, threadOf, timerOf, rowsOf, describedBy, pageFormed, pageSound, pageOf}
-use Rattle.soundness.proofs.Tested.{sound-facts}
-use Rattle.pages.proofs.Pages.{page-of-sound, described-is-sound}
-use Rattle.engine.specs.declared.Engine.{Engine}
-use Rattle.engine.specs.Stands.{engineOf}
+use Rattle.rules_soundness.proofs.Tested.{sound-facts}
+use Rattle.rules_pages.proofs.Pages.{page-of-sound, described-is-sound}
+use Rattle.value_engine.specs.declared.Engine.{Engine}
+use Rattle.value_engine.specs.Stands.{engineOf}
 use Rattle.page.specs.Says.{said, pageFor}
 use Rattle.page.proofs.Says.{Fits, said-for}
-use Rattle.describe.specs.Models.{describeModel}
-use Rattle.describe.proofs.Means.{describe-means}
-use Rattle.build.specs.Models.{buildModel}
-use Rattle.build.proofs.Means.{build-means}
+use Rattle.page_describing.specs.Describing.{describeModel}
+use Rattle.page_describing.proofs.Means.{describe-means}
+use Rattle.page_building.specs.Building.{buildModel}
+use Rattle.page_building.proofs.Means.{build-means}
 use Rattle.kernel.specs.declared.Kernel.{Kernel}
 use Rattle.kernel.specs.Kernels.{kernelOf, SoundKernel}
 

@@ -13,7 +13,7 @@ use Rattle.rules.specs.Page.{Page, describedBy, pageFormed, pageSound}
 use Rattle.rules.specs.Sound.{sound}
 use Rattle.rules.specs.Step as step
 use Rattle.rules.specs.Step.{stepDecoded}
-use Rattle.engine.specs.Stands.{engineOf}
+use Rattle.value_engine.specs.Stands.{engineOf}
 use Rattle.kernel.specs.declared.Kernel.{Kernel}
 use Rattle.kernel.specs.declared.Stepped.{Stepped}
 

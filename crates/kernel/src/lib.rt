@@ -1,16 +1,19 @@
 // The kernel: boot, the thirteen calls, a call row, and whether the kernel is sound. Each call tests first that the kernel is sound, and hands
 // back the kernel that follows with its answer.
-use alike::same;
-use build::build;
 use calls::Answer;
 use calls::Call;
 use calls::Decoded;
 use calls::Kind;
+use calls::Row;
 use calls::decode;
-use checks::sound;
-use describe::describe;
-use engine::Engine;
+use limits::NONE;
+use limits::NOTHING;
+use page_building::build;
+use page_describing::describe;
+use sound_alike::same;
+use sound_page::sound;
 use units::Micros;
+use value_engine::Engine;
 ghost use mathlib.Core.Path.{_≡_};
 ghost use mathlib.Core.Bool.{true};
 ghost use mathlib.Core.Logic.{_↔_};
@@ -61,8 +64,8 @@ impl Kernel {
     {
         let answer = Answer {
             number,
-            given: 255,
-            running: 255,
+            given: NOTHING,
+            running: NONE,
         };
         Stepped {
             kernel: self,
@@ -109,7 +112,7 @@ impl Kernel {
     }
 
     // A row of 8 bytes: 17 if it is of wrong form, else its call.
-    pub fn step_row(mut self, row: [u8; 8]) -> Stepped
+    pub fn step_row(mut self, row: Row) -> Stepped
         ensures { λ r. ⌜ Steps self (decoded row) r ⌝ }
     {
         let decoded = decode(row);

@@ -6,10 +6,11 @@ use mathlib.Core.Path.{_≡_, refl, sym, ap, _∙_}
 use mathlib.Core.List.{List}
 use native.Mathlib.Omega.{arith}
 use lib.ListN.{length, getD, List·getD-eq-default}
-use Rattle.laws.specs.Lists.{by-below, tabulate, length-tabulate, getD-tabulate, tabulate-below}
+use Rattle.laws.specs.Lists.{tabulate}
+use Rattle.laws.proofs.Lists.{by-below, length-tabulate, getD-tabulate, tabulate-below}
 use Rattle.rules.specs.State.{noMutex}
 use Rattle.rules.specs.Page.{Page, noRow}
-use Rattle.pages.proofs.Rows.{tabulate-is}
+use Rattle.rules_pages.proofs.Rows.{tabulate-is}
 use Rattle.page.specs.Says.{threadSaid, mutexSaid, timerSaid, threadFor, mutexFor, timerFor, noThreadRow, noMutexRow, noTimerRow, stoppedTimerRow, said, pageFor}
 
 -- the tables are not longer than the code's

@@ -7,7 +7,7 @@ use Rattle.laws.specs.Lists.{tabulate}
 use Rattle.units.specs.Units.{inTicks}
 use Rattle.rules.specs.State as state
 use Rattle.rules.specs.Page as rules
-use Rattle.scheduler.specs.declared.Mutex as scheduler
+use Rattle.value_effects.specs.declared.Mutex as scheduler
 use Rattle.page.specs.declared.ThreadRow.{ThreadRow}
 use Rattle.page.specs.declared.TimerRow.{TimerRow}
 use Rattle.page.specs.declared.Page.{Page}

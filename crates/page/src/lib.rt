@@ -1,6 +1,20 @@
 // A page: what a saved record says, as plain rows of numbers. Rows past a table's count say nothing and are blank.
-use scheduler::Mutex;
+use limits::CONDITION_ROWS;
+use limits::CONDITIONS;
+use limits::MUTEX_ROWS;
+use limits::MUTEXES;
+use limits::NONE;
+use limits::RUNNING;
+use limits::STOPPED;
+use limits::THREAD_ROWS;
+use limits::THREADS;
+use limits::TIMER_ROWS;
+use limits::TIMERS;
 use units::Ticks;
+use value_effects::FREE_MUTEX;
+use value_effects::Mutex;
+use value_effects::MutexTable;
+use value_effects::Ties;
 ghost use mathlib.Core.Path.{_≡_};
 ghost use lib.ListN.{getD};
 ghost use Rattle.page.specs.Says.{noThreadRow, noMutexRow, noTimerRow, pageFor, emptyPage};
@@ -22,6 +36,28 @@ pub struct TimerRow {
     pub left: Ticks,
 }
 
+// The row of a thread past the count.
+pub const BLANK_ROW: ThreadRow = ThreadRow {
+    base: 0,
+    state: RUNNING,
+    object: NONE,
+    place: 0,
+};
+
+// A row for each thread.
+pub type ThreadRows = [ThreadRow; THREAD_ROWS];
+
+// The row of a stopped timer, and of one past the count.
+pub const STOPPED_ROW: TimerRow = TimerRow {
+    state: STOPPED,
+    condition: NONE,
+    length: Ticks(0),
+    left: Ticks(0),
+};
+
+// A row for each timer.
+pub type TimerRows = [TimerRow; TIMER_ROWS];
+
 // Whether started, the tick count, how many threads, mutexes, condition variables and timers there are, and their four tables.
 pub struct Page {
     pub started: bool,
@@ -30,17 +66,17 @@ pub struct Page {
     pub mutexes: u8,
     pub conditions: u8,
     pub timers: u8,
-    pub threadrows: [ThreadRow; 32],
-    pub mutexrows: [Mutex; 16],
-    pub ties: [u8; 16],
-    pub timerrows: [TimerRow; 32],
+    pub threadrows: ThreadRows,
+    pub mutexrows: MutexTable,
+    pub ties: Ties,
+    pub timerrows: TimerRows,
 }
 
 // The row of thread t; past the table zeros.
-pub fn thread_row(rows: [ThreadRow; 32], t: u8) -> ThreadRow
+pub fn thread_row(rows: ThreadRows, t: u8) -> ThreadRow
     ensures { λ r. ⌜ r ≡ getD rows t noThreadRow ⌝ }
 {
-    if t < 32 {
+    if t < THREADS {
         let i = t as usize;
         return rows[i];
     }
@@ -53,10 +89,10 @@ pub fn thread_row(rows: [ThreadRow; 32], t: u8) -> ThreadRow
 }
 
 // The row of mutex m; past the table zeros.
-pub fn mutex_row(rows: [Mutex; 16], m: u8) -> Mutex
+pub fn mutex_row(rows: MutexTable, m: u8) -> Mutex
     ensures { λ r. ⌜ r ≡ getD rows m noMutexRow ⌝ }
 {
-    if m < 16 {
+    if m < MUTEXES {
         let i = m as usize;
         return rows[i];
     }
@@ -68,10 +104,10 @@ pub fn mutex_row(rows: [Mutex; 16], m: u8) -> Mutex
 }
 
 // The tie of condition variable c; past the table 0.
-pub fn tie_row(ties: [u8; 16], c: u8) -> u8
+pub fn tie_row(ties: Ties, c: u8) -> u8
     ensures { λ r. ⌜ r ≡ getD ties c 0 ⌝ }
 {
-    if c < 16 {
+    if c < CONDITIONS {
         let i = c as usize;
         return ties[i];
     }
@@ -79,10 +115,10 @@ pub fn tie_row(ties: [u8; 16], c: u8) -> u8
 }
 
 // The row of timer t; past the table zeros.
-pub fn timer_row(rows: [TimerRow; 32], t: u8) -> TimerRow
+pub fn timer_row(rows: TimerRows, t: u8) -> TimerRow
     ensures { λ r. ⌜ r ≡ getD rows t noTimerRow ⌝ }
 {
-    if t < 32 {
+    if t < TIMERS {
         let i = t as usize;
         return rows[i];
     }
@@ -99,27 +135,13 @@ impl Page {
     pub fn blank() -> Page
         ensures { λ r. ⌜ r ≡ pageFor emptyPage ⌝ }
     {
-        let thread = ThreadRow {
-            base: 0,
-            state: 2,
-            object: 255,
-            place: 0,
-        };
-        let threadrows = [thread; 32];
-        let free = Mutex {
-            ceiling: 0,
-            owner: 255,
-            count: 0,
-        };
-        let mutexrows = [free; 16];
-        let ties = [255u8; 16];
-        let stopped = TimerRow {
-            state: 0,
-            condition: 255,
-            length: Ticks(0),
-            left: Ticks(0),
-        };
-        let timerrows = [stopped; 32];
+        let thread = BLANK_ROW;
+        let threadrows = [thread; THREAD_ROWS];
+        let free = FREE_MUTEX;
+        let mutexrows = [free; MUTEX_ROWS];
+        let ties = [NONE; CONDITION_ROWS];
+        let stopped = STOPPED_ROW;
+        let timerrows = [stopped; TIMER_ROWS];
         Page {
             started: false,
             count: 0,

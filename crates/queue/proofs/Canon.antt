@@ -5,8 +5,9 @@ use mathlib.Core.Path.{_≡_, refl, sym, ap, _∙_}
 use mathlib.Core.List.{List, [], _∷_, flatten}
 use native.Mathlib.Omega.{arith}
 use lib.ListN.{length, getD}
-use Rattle.laws.specs.Lists.{at, firstOr, one, count, one-same, count-at, pigeonhole, Wide, getD-flatten}
-use Rattle.queue.specs.Models.{walk, readModel}
+use Rattle.laws.specs.Counting.{at, firstOr, one, count, Wide}
+use Rattle.laws.proofs.Lists.{one-same, count-at, pigeonhole, getD-flatten}
+use Rattle.queue.specs.Linking.{walk, readModel}
 use Rattle.queue.specs.Stands.{Fresh, Represents, endsOf, after, linksOf}
 use Rattle.queue.specs.declared.Queue.{Queue}
 use Rattle.queue.specs.declared.Links.{Links}

@@ -3,6 +3,6 @@
 -- Assumes nothing.
 use borrow.Author.Needs.{needs}
 use borrow.Author.Tests.{lt-ltb, le-ltb}
-use Rattle.laws.specs.Lists.{length-mapped}
+use Rattle.laws.proofs.Lists.{length-mapped}
 
 pub ruleset cases = (needs, length-mapped, lt-ltb, le-ltb)

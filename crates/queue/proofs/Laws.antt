@@ -11,8 +11,9 @@ use lib.ListN.{length, getD, set}
 use lib.Seq.{getD-set-same, set-getD}
 use lib.Dec.{ltb}
 use borrow.Author.Tests.{lt-ltb}
-use Rattle.laws.specs.Lists.{at, firstOr, lastOr, rest, occupied, one, count, counts, by-equal, by-below, one-same, one-other, count-append, counts-set, count-at, last-back, last-in, getD-tabulate, tabulate-same, set-tabulate}
-use Rattle.queue.specs.Models.{linked, backModel, frontModel, leaveModel}
+use Rattle.laws.specs.Counting.{at, firstOr, lastOr, rest, occupied, one, count, counts}
+use Rattle.laws.proofs.Lists.{by-equal, by-below, one-same, one-other, count-append, counts-set, count-at, last-back, last-in, getD-tabulate, tabulate-same, set-tabulate}
+use Rattle.queue.specs.Linking.{linked, backModel, frontModel, leaveModel}
 use Rattle.queue.specs.Stands.{Fresh, endsOf, after, linkOf, linksOf, linkedOf}
 use Rattle.queue.proofs.Linking.{after-first, after-rest, after-back-other, after-back-last, after-back-new, link-none, link-at, link-set}
 

@@ -10,7 +10,8 @@ use native.Mathlib.Omega.{arith}
 use lib.ListN.{set}
 use lib.Dec.{eqb}
 use borrow.Author.Tests.{eq-eqb, ne-eqb}
-use Rattle.laws.specs.Lists.{at, firstOr, lastOr, bit, one, count, counts, one-same, count-at, last-in}
+use Rattle.laws.specs.Counting.{at, firstOr, lastOr, bit, one, count, counts}
+use Rattle.laws.proofs.Lists.{one-same, count-at, last-in}
 use Rattle.queue.specs.Stands.{after, linkOf}
 
 -- ---- one list

@@ -8,8 +8,8 @@ use native.Mathlib.Omega.{arith}
 use lib.ListN.{length, getD}
 use lib.Dec.{ltb}
 use borrow.Author.Tests.{lt-ltb, le-ltb}
-use Rattle.laws.specs.Lists.{getD-any}
-use Rattle.queue.specs.Models.{walk, highestBelow, emptyQueue, levelModel, hasFirst}
+use Rattle.laws.proofs.Lists.{getD-any}
+use Rattle.queue.specs.Linking.{walk, highestBelow, emptyQueue, levelModel, hasFirst}
 use Rattle.queue.specs.declared.Queue.{Queue}
 use Rattle.queue.specs.declared.Queues.{Queues}
 

@@ -8,9 +8,10 @@ use mathlib.Core.List.{List, [], _∷_, _++_, flatten}
 use native.Mathlib.Omega.{arith}
 use lib.ListN.{length, set, List·getD-map}
 use lib.Dec.{ltb}
-use Rattle.laws.specs.Bools.{no-way}
-use Rattle.laws.specs.Lists.{at, rest, occupied, counts, by-equal, by-below, count-at, counts-part, map-set, Wide, getD-flatten, flatten-set, below-flatten}
-use Rattle.queue.specs.Models.{backModel, frontModel, leaveModel, levelModel, withLevelModel, hasFirst, highestBelow, highestModel}
+use Rattle.laws.specs.Counting.{at, rest, occupied, counts, Wide}
+use Rattle.laws.proofs.Bools.{no-way}
+use Rattle.laws.proofs.Lists.{by-equal, by-below, count-at, counts-part, map-set, getD-flatten, flatten-set, below-flatten}
+use Rattle.queue.specs.Linking.{backModel, frontModel, leaveModel, levelModel, withLevelModel, hasFirst, highestBelow, highestModel}
 use Rattle.queue.specs.Stands.{Fresh, endsOf, linksOf, linkedOf, linkedIn, queuesOf, highestList, IsHighest}
 use Rattle.queue.specs.declared.Queues.{Queues}
 use Rattle.queue.proofs.Laws.{back-at, front-at, leave-at, occupied-of}

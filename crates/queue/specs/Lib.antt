@@ -1,2 +1,2 @@
-pub mod Models
+pub mod Linking
 pub mod Stands

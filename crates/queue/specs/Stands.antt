@@ -7,8 +7,9 @@ use mathlib.Core.Bool.{Bool, true, false, cond}
 use mathlib.Core.List.{List, [], _∷_, map, flatten}
 use lib.ListN.{set}
 use lib.Dec.{eqb}
-use Rattle.laws.specs.Lists.{at, firstOr, lastOr, occupied, counts, tabulate}
-use Rattle.queue.specs.Models.{highestBelow}
+use Rattle.laws.specs.Lists.{tabulate}
+use Rattle.laws.specs.Counting.{at, firstOr, lastOr, occupied, counts}
+use Rattle.queue.specs.Linking.{highestBelow}
 use Rattle.queue.specs.declared.Queue.{Queue}
 use Rattle.queue.specs.declared.Links.{Links}
 use Rattle.queue.specs.declared.Linked.{Linked}

@@ -1,8 +1,20 @@
 // Queues of threads, linked by index: each queue has its first and its last thread, 255 for none, and all threads together
 // have one array of links. An operation takes the links and one queue and hands both back.
 // A thread's id or an end of 32 or more is no thread: nothing is stored there.
+use limits::HIGHEST;
+use limits::LEVELS;
+use limits::NONE;
+use limits::PRIORITIES;
+use limits::THREAD_ROWS;
+use limits::THREADS;
 ghost use mathlib.Core.Path.{_≡_};
-ghost use Rattle.queue.specs.Models.{emptyQueue, emptyLinks, emptyQueues, backModel, frontModel, leaveModel, levelModel, withLevelModel, highestModel};
+ghost use Rattle.queue.specs.Linking.{emptyQueue, emptyLinks, emptyQueues, backModel, frontModel, leaveModel, levelModel, withLevelModel, highestModel};
+
+// What follows each thread in its queue.
+pub type Next = [u8; THREAD_ROWS];
+
+// One queue for each priority.
+pub type Levels = [Queue; LEVELS];
 
 // The first and the last thread of a queue, 255 and 255 where it is empty.
 pub struct Queue {
@@ -12,7 +24,7 @@ pub struct Queue {
 
 // The thread that follows each thread in its queue, 255 for the last of a queue and for a thread that stands in none.
 pub struct Links {
-    pub next: [u8; 32],
+    pub next: Next,
 }
 
 // What an operation hands back: the links, and the one queue that it was about.
@@ -23,7 +35,7 @@ pub struct Linked {
 
 // One queue for each of the 16 priorities.
 pub struct Queues {
-    pub levels: [Queue; 16],
+    pub levels: Levels,
 }
 
 impl Queue {
@@ -31,8 +43,8 @@ impl Queue {
         ensures { λ r. ⌜ r ≡ emptyQueue ⌝ }
     {
         Queue {
-            first: 255,
-            last: 255,
+            first: NONE,
+            last: NONE,
         }
     }
 }
@@ -42,7 +54,7 @@ impl Links {
     pub fn empty() -> Self
         ensures { λ r. ⌜ r ≡ emptyLinks ⌝ }
     {
-        let next = [255u8; 32];
+        let next = [NONE; THREAD_ROWS];
         Links { next }
     }
 
@@ -50,12 +62,12 @@ impl Links {
     pub fn back(mut self, queue: Queue, t: u8) -> Linked
         ensures { λ r. ⌜ r ≡ backModel self queue t ⌝ }
     {
-        if 32 <= t {
+        if THREADS <= t {
             return Linked { links: self, queue };
         }
         let first = queue.first;
         let last = queue.last;
-        if last < 32 {
+        if last < THREADS {
             let i = last as usize;
             self.next[i] = t;
             let queue = Queue { first, last: t };
@@ -69,14 +81,14 @@ impl Links {
     pub fn front(mut self, queue: Queue, t: u8) -> Linked
         ensures { λ r. ⌜ r ≡ frontModel self queue t ⌝ }
     {
-        if 32 <= t {
+        if THREADS <= t {
             return Linked { links: self, queue };
         }
         let first = queue.first;
         let last = queue.last;
         let i = t as usize;
         self.next[i] = first;
-        if first < 32 {
+        if first < THREADS {
             let queue = Queue { first: t, last };
             return Linked { links: self, queue };
         }
@@ -90,13 +102,13 @@ impl Links {
     {
         let first = queue.first;
         let last = queue.last;
-        if 32 <= first {
+        if THREADS <= first {
             return Linked { links: self, queue };
         }
         let i = first as usize;
         let after = self.next[i];
-        self.next[i] = 255;
-        if after < 32 {
+        self.next[i] = NONE;
+        if after < THREADS {
             let queue = Queue { first: after, last };
             return Linked { links: self, queue };
         }
@@ -110,7 +122,7 @@ impl Queues {
         ensures { λ r. ⌜ r ≡ emptyQueues ⌝ }
     {
         let q = Queue::empty();
-        let levels = [q; 16];
+        let levels = [q; LEVELS];
         Queues { levels }
     }
 
@@ -118,7 +130,7 @@ impl Queues {
     pub fn level(self, p: u8) -> Queue
         ensures { λ r. ⌜ r ≡ levelModel self p ⌝ }
     {
-        if p < 16 {
+        if p < PRIORITIES {
             let i = p as usize;
             return self.levels[i];
         }
@@ -129,7 +141,7 @@ impl Queues {
     pub fn with_level(mut self, p: u8, q: Queue) -> Self
         ensures { λ r. ⌜ r ≡ withLevelModel self p q ⌝ }
     {
-        if p < 16 {
+        if p < PRIORITIES {
             let i = p as usize;
             self.levels[i] = q;
         }
@@ -141,15 +153,15 @@ impl Queues {
         ensures { λ r. ⌜ r ≡ highestModel self ⌝ }
     {
         let mut passed: u8 = 0;
-        while passed < 16 {
-            let p = 15 - passed;
+        while passed < PRIORITIES {
+            let p = HIGHEST - passed;
             let i = p as usize;
             let q = self.levels[i];
-            if q.first < 32 {
+            if q.first < THREADS {
                 return p;
             }
             passed += 1;
         }
-        16
+        PRIORITIES
     }
 }

@@ -4,14 +4,14 @@ use Prim.Native.Nat.{ℕ}
 use mathlib.Core.Path.{_≡_, sym, ap, _∙_}
 use mathlib.Core.Bool.{Bool, true, false, _&&_}
 use mathlib.Core.List.{List}
-use Rattle.laws.specs.Bools.{and-right, and-both, refuted, no-way}
+use Rattle.laws.proofs.Bools.{and-right, and-both, refuted, no-way}
 use Rattle.rules.specs.Page.{describedBy, pageFormed, pageSound}
-use Rattle.saved.specs.Record.{pageIn, formed}
-use Rattle.saved.specs.Loading.{load}
-use Rattle.saved.proofs.Writing.{states-formed}
-use Rattle.saved.proofs.Loading.{load-done, load-wrong, load-unsound}
-use Rattle.engine.specs.declared.Engine.{Engine}
-use Rattle.engine.specs.Stands.{engineOf}
+use Rattle.record_bytes.specs.Record.{pageIn, formed}
+use Rattle.record_bytes.specs.Loading.{load}
+use Rattle.record_bytes.proofs.Writing.{states-formed}
+use Rattle.record_bytes.proofs.Loading.{load-done, load-wrong, load-unsound}
+use Rattle.value_engine.specs.declared.Engine.{Engine}
+use Rattle.value_engine.specs.Stands.{engineOf}
 use Rattle.page.specs.declared.Page.{Page}
 use Rattle.page.specs.Says.{said}
 use Rattle.record.specs.declared.Loaded.{Loaded}

@@ -14,11 +14,11 @@ use Rattle.calls.specs.Answers.{numberOf}
 use Rattle.rules.specs.State.{State}
 use Rattle.rules.specs.Sound.{sound}
 use Rattle.rules.specs.Page.{pageOf}
-use Rattle.saved.specs.Record.{recordOf}
-use Rattle.saved.specs.Loading.{saved, save}
-use Rattle.saved.proofs.Loading.{save-done, save-short}
-use Rattle.pages.proofs.Pages.{page-of-sound}
-use Rattle.engine.specs.Stands.{engineOf}
+use Rattle.record_bytes.specs.Record.{recordOf}
+use Rattle.record_bytes.specs.Loading.{saved, save}
+use Rattle.record_bytes.proofs.Loading.{save-done, save-short}
+use Rattle.rules_pages.proofs.Pages.{page-of-sound}
+use Rattle.value_engine.specs.Stands.{engineOf}
 use Rattle.page.specs.declared.Page.{Page}
 use Rattle.page.specs.Says.{said, pageFor}
 use Rattle.page.proofs.Says.{said-for}

@@ -1,14 +1,17 @@
 // The saved record: a kernel loaded from bytes, and a kernel saved into a lent buffer.
-use build::build;
-use checks::sound;
-use describe::describe;
 use kernel::Kernel;
-use reading::open;
-use writing::total;
-use writing::write;
+use page_building::build;
+use page_describing::describe;
+use record_reading::open;
+use record_writing::total;
+use record_writing::write;
+use sound_page::sound;
 ghost use mathlib.Core.Path.{_≡_};
-ghost use Rattle.saved.specs.Loading.{load};
+ghost use Rattle.record_bytes.specs.Loading.{load};
 ghost use Rattle.record.specs.Records.{refusedModel, loadedOf, Saves};
+
+// A buffer of so many bytes has room for any record.
+pub const ROOM: usize = 1024;
 
 // What a load gives: its answer, and the kernel, which is boot's where the record is refused.
 pub struct Loaded {

@@ -4,24 +4,35 @@
 //
 // A bundle has for each record a length of 16 bits, low byte first, and then that many bytes. For each record there is one line on standard
 // output: its number from 1, the answer to its load, and the length of the save. The saves go to OUT, one after the other.
-use files::Filled;
-use files::argument;
-use files::complain;
-use files::fill;
-use files::open_input;
-use files::open_output;
-use files::print;
-use files::say;
-use files::within;
-use files::write;
 use libc::STDERR_FILENO;
-use runs::save_again;
+use program_files::Filled;
+use program_files::argument;
+use program_files::complain;
+use program_files::fill;
+use program_files::open_input;
+use program_files::open_output;
+use program_files::print;
+use program_files::say;
+use program_files::within;
+use program_files::write;
+use record::ROOM;
+use run_pieces::BLOCK;
+use run_pieces::save_again;
+use run_text::entry;
+use run_text::save_refusal;
 use std::num::wrapping_add_u64;
-use text::entry;
-use text::save_refusal;
 ghost use mathlib.Core.Path.{_≡_};
 ghost use Prim.Native.Nat.{_+_, _*_};
 ghost use Rattle.io.specs.Counts.{Counts};
+
+// The bytes of a length.
+const LENGTH: usize = 2;
+
+// The numbers that a byte can be.
+const BYTE: usize = 256;
+
+// The bytes of two blocks.
+const BLOCKS: usize = 2 * BLOCK;
 
 // The length of the record that follows in a bundle, or that none does.
 struct Head {
@@ -39,7 +50,7 @@ struct Walk {
 fn length_of(low: u8, high: u8) -> usize
     ensures { λ r. ⌜ r ≡ low + high * 256 ⌝ }
 {
-    low as usize + high as usize * 256
+    low as usize + high as usize * BYTE
 }
 
 // The bundle ends within a record: that is said.
@@ -62,9 +73,9 @@ fn read_whole(input: i32, path: &[u8], buffer: &mut [u8]) -> bool {
 
 // Reads the length of the next record.
 fn read_head(input: i32, path: &[u8]) -> Head {
-    let mut bytes = [0u8; 2];
+    let mut bytes = [0u8; LENGTH];
     let filled = fill(input, path, &mut bytes);
-    if filled.held == 2 {
+    if filled.held == LENGTH {
         let length = length_of(bytes[0], bytes[1]);
         return Head {
             length,
@@ -94,7 +105,7 @@ fn read_first(input: i32, path: &[u8], length: usize, buffer: &mut [u8]) -> Fill
 
 // Reads past at most 8,192 bytes; whether they were there.
 fn skip_some(input: i32, path: &[u8], count: usize) -> bool {
-    let mut buffer = [0u8; 8192];
+    let mut buffer = [0u8; BLOCK];
     let part = within(count, &buffer);
     read_whole(input, path, &mut buffer[..part])
 }
@@ -102,21 +113,21 @@ fn skip_some(input: i32, path: &[u8], count: usize) -> bool {
 // Reads past what a record has beyond its first 8,192 bytes; whether that was there.
 fn skip(input: i32, path: &[u8], length: usize) -> bool {
     let mut left = length;
-    while 16384 < left {
-        if !skip_some(input, path, 8192) {
+    while BLOCKS < left {
+        if !skip_some(input, path, BLOCK) {
             return false;
         }
-        left -= 8192;
+        left -= BLOCK;
     }
-    if left <= 8192 {
+    if left <= BLOCK {
         return true;
     }
-    skip_some(input, path, left - 8192)
+    skip_some(input, path, left - BLOCK)
 }
 
 // Loads a record and saves what load hands back, prints its line and writes the save; whether that was done. A save that is refused is said.
 fn answer_record(number: u64, bytes: &[u8], output: i32, out: &[u8]) -> bool {
-    let mut buffer = [0u8; 1024];
+    let mut buffer = [0u8; ROOM];
     let again = save_again(bytes, &mut buffer);
     let saved = again.saved;
     if !print(entry(number, again.answer, saved.length)) {
@@ -144,7 +155,7 @@ fn read_record(walk: Walk, input: i32, path: &[u8], output: i32, out: &[u8]) -> 
     if head.ended {
         return over;
     }
-    let mut buffer = [0u8; 8192];
+    let mut buffer = [0u8; BLOCK];
     let first = read_first(input, path, head.length, &mut buffer);
     if first.failed {
         return over;

@@ -6,7 +6,8 @@ use mathlib.Core.List.{List}
 use Rattle.calls.specs.declared.Call.{Call}
 use Rattle.calls.specs.declared.Call.the-variants.{Start, CreateThread, CreateMutex, CreateCondition, CreateTimer, Acquire, Release, Wait, Signal, Broadcast, StartTimer, StopTimer, Tick}
 use Rattle.rules.specs.State.{Rows, Timer}
-use Rattle.rules.specs.Refusals.{tests, position, inOrder}
+use Rattle.rules.specs.Refusals.{tests}
+use Rattle.rules.specs.Order.{position, inOrder}
 
 pub checked-in-order : (k : Rows) (ts : List Timer) (call : Call) → inOrder 0 (tests k ts call) ≡ true
 unfolding tests position inOrder

@@ -3,6 +3,7 @@ pub mod State
 pub mod Next
 pub mod Effects
 pub mod Refusals
+pub mod Order
 pub mod Sound
 pub mod Page
 pub mod Earlier

@@ -5,8 +5,7 @@ use mathlib.Core.Bool.{Bool, true, cond, not, _||_, _&&_}
 use mathlib.Core.List.{List, [], _∷_, map, flatten}
 use lib.ListN.{length, getD}
 use lib.Dec.{eqb, ltb, leb}
-use Rattle.laws.specs.Bits.{among}
-use Rattle.laws.specs.Lists.{tabulate}
+use Rattle.laws.specs.Lists.{among, tabulate}
 use Rattle.units.specs.Units.{outside}
 use Rattle.rules.specs.Queues.{QueueSet, queue}
 use Rattle.rules.specs.State.{Where, running, ready, forMutex, onCondition, same, Thread, Mutex, TimerState, stopped, oneShot, periodic, Timer, Rows, Scheduler, State, thread, at, priority, setAt}

@@ -1,8 +1,8 @@
 -- When a call of a sound state is refused, and by which verdict: for each call the tests in document 01's order of checking
 -- (2, 3, 4, 6, 7, 5, then the rest by number). The first that holds decides.
 -- Assumes nothing.
-use Prim.Native.Nat.{ℕ, suc}
-use mathlib.Core.Bool.{Bool, true, cond, not, _||_, _&&_}
+use Prim.Native.Nat.{ℕ}
+use mathlib.Core.Bool.{Bool, cond, not, _||_, _&&_}
 use mathlib.Core.List.{List, [], _∷_}
 use lib.ListN.{length}
 use lib.Dec.{eqb, ltb, leb}
@@ -11,7 +11,6 @@ use Rattle.calls.specs.declared.Call.{Call}
 use Rattle.calls.specs.declared.Call.the-variants.{Start, CreateThread, CreateMutex, CreateCondition, CreateTimer, Acquire, Release, Wait, Signal, Broadcast, StartTimer, StopTimer, Tick}
 use Rattle.calls.specs.declared.Verdict.{Verdict}
 use Rattle.calls.specs.declared.Verdict.the-variants.{Done, Stopped, AlreadyStarted, NoSuchId, IdleCaller, OutOfRange, TableFull, AboveCeiling, NotOwner, CountFull, HoldingMore, TiedElsewhere, TimerRunning, TimerStopped}
-use Rattle.calls.specs.Answers.{numberOf}
 use Rattle.rules.specs.State.{Rows, Timer, State, mutex, tied, timer, priority, owned}
 use Rattle.rules.specs.Effects.{goes}
 
@@ -82,19 +81,3 @@ tests k ts Tick = (not (k .started) ⇒ Stopped) ∷ []
 -- the verdict on a call of a sound state
 unfoldable pub verdictOf : State → Call → Verdict
 verdictOf s call = verdict (tests (s .scheduler .rows) (s .timers) call)
-
--- ---- the order of checking: 17, 1, 2, 3, 4, 6, 7, 5, then the rest by number
-
--- the place of a number in a list, or the list's length
-unfoldable pub position : ℕ → List ℕ → ℕ
-position n [] = 0
-position n (x ∷ xs) = cond (eqb n x) 0 (suc (position n xs))
-
--- the place of a verdict in that order
-abbrev pub rank : Verdict → ℕ
-rank v = position (numberOf v) (17 ∷ 1 ∷ 2 ∷ 3 ∷ 4 ∷ 6 ∷ 7 ∷ 5 ∷ 8 ∷ 9 ∷ 10 ∷ 11 ∷ 12 ∷ 13 ∷ 14 ∷ [])
-
--- each test is checked after those before it
-unfoldable pub inOrder : ℕ → List Test → Bool
-inOrder n [] = true
-inOrder n (x ∷ xs) = leb n (rank (x .verdict)) && inOrder (suc (rank (x .verdict))) xs

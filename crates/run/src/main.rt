@@ -6,18 +6,19 @@
 //
 // Of a START that is refused the text is one line: CALLS is not read, and END is not written. END is opened when all calls are answered and its record
 // is made.
-use files::argument;
-use files::fill;
-use files::open_input;
-use files::open_output;
-use files::write;
 use libc::STDERR_FILENO;
 use libc::STDIN_FILENO;
 use libc::STDOUT_FILENO;
-use runs::Run;
-use stored::record_of;
-use stored::start_named;
-use stored::write_record;
+use program_files::argument;
+use program_files::fill;
+use program_files::open_input;
+use program_files::open_output;
+use program_files::write;
+use program_records::record_of;
+use program_records::start_named;
+use program_records::write_record;
+use run_pieces::BLOCK;
+use run_pieces::Run;
 
 // How far the work has come: the run, whether its input has ended, and whether something failed.
 struct Work {
@@ -43,7 +44,7 @@ fn print_first(output: &[u8]) -> bool {
 // Reads 8,192 bytes, or what is left, feeds them to the run and writes its text.
 fn run_some(work: Work, input: i32, path: &[u8]) -> Work {
     let run = work.run;
-    let mut block = [0u8; 8192];
+    let mut block = [0u8; BLOCK];
     let filled = fill(input, path, &mut block);
     if filled.failed {
         return stopped(run);
@@ -56,7 +57,7 @@ fn run_some(work: Work, input: i32, path: &[u8]) -> Work {
     let is_written = print_first(&output[..used]);
     Work {
         run: after,
-        ended: !is_written || held < 8192,
+        ended: !is_written || held < BLOCK,
         failed: !is_written,
     }
 }

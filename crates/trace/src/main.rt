@@ -4,17 +4,19 @@
 //
 // A last row that is cut short counts as a row. Of a START that is refused one line is written on standard output, and OUT is not written. OUT is opened
 // when the first record is made.
-use files::argument;
-use files::fill;
-use files::open_input;
-use files::open_output;
-use files::write;
+use calls::ROW;
 use libc::STDERR_FILENO;
 use libc::STDOUT_FILENO;
-use runs::Run;
-use stored::record_of;
-use stored::start_named;
-use stored::write_record;
+use program_files::argument;
+use program_files::fill;
+use program_files::open_input;
+use program_files::open_output;
+use program_files::write;
+use program_records::record_of;
+use program_records::start_named;
+use program_records::write_record;
+use run_pieces::BLOCK;
+use run_pieces::Run;
 
 // How far a trace has come: the run, and whether it has ended.
 struct Trace {
@@ -30,8 +32,8 @@ fn write_reached(run: Run, output: i32, out: &[u8]) -> bool {
 // Reads one row, or what is left of one, feeds it to the run and writes the record after it.
 fn trace_row(trace: Trace, input: i32, calls: &[u8], output: i32, out: &[u8]) -> Trace {
     let run = trace.run;
-    let mut block = [0u8; 8192];
-    let filled = fill(input, calls, &mut block[..8]);
+    let mut block = [0u8; BLOCK];
+    let filled = fill(input, calls, &mut block[..ROW]);
     let held = filled.held;
     if filled.failed || held == 0 {
         return Trace { run, ended: true };
@@ -42,7 +44,7 @@ fn trace_row(trace: Trace, input: i32, calls: &[u8], output: i32, out: &[u8]) ->
     let is_written = write_reached(after, output, out);
     Trace {
         run: after,
-        ended: !is_written || held < 8,
+        ended: !is_written || held < ROW,
     }
 }
 

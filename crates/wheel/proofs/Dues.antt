@@ -7,8 +7,8 @@ use native.Mathlib.Omega.{arith}
 use lib.Dec.{eqb}
 use lib.Count.{trailingZeros, trailing-of-zero}
 use borrow.Author.Tests.{ne-eqb, eqb-true, eqb-false}
-use Rattle.laws.specs.Bools.{by-cases}
-use Rattle.laws.specs.Bits.{members-first, members-none}
+use Rattle.laws.proofs.Bools.{by-cases}
+use Rattle.laws.proofs.Bits.{members-first, members-none}
 use Rattle.wheel.specs.declared.Due.{Due}
 use Rattle.wheel.specs.Inside.{lowestOff}
 use Rattle.wheel.specs.Promise.{idsOf, withoutFirst, first, rest}

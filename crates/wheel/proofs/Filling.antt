@@ -8,7 +8,7 @@ use lib.ListN.{getD}
 use lib.Dec.{eqb}
 use borrow.Author.Tests.{eqb-true, eqb-false, lt-ltb, le-ltb}
 use Rattle.laws.specs.Lists.{tabulate}
-use Rattle.laws.specs.Bools.{by-cases}
+use Rattle.laws.proofs.Bools.{by-cases}
 use Rattle.wheel.specs.Hung.{empty, given, filled, withLeft, started}
 use Rattle.wheel.proofs.Visits.{unchanged, changed, at-k}
 

@@ -9,9 +9,11 @@ use lib.ListN.{length, getD, set}
 use lib.Dec.{eqb, ltb}
 use lib.Bits.{bitOr, bitXor}
 use borrow.Author.Tests.{eq-eqb, ne-eqb, eqb-true, eqb-false, lt-ltb, le-ltb, lt-leb, le-leb, ltb-true, ltb-false}
-use Rattle.laws.specs.Lists.{getD-tabulate, set-tabulate-below, tabulate}
-use Rattle.laws.specs.Bools.{by-cases, or-false, or-right}
-use Rattle.laws.specs.Bits.{wordOf, word-same, or-words, xor-words, xor-false}
+use Rattle.laws.specs.Lists.{tabulate}
+use Rattle.laws.specs.Bits.{wordOf}
+use Rattle.laws.proofs.Bools.{by-cases, or-false, or-right}
+use Rattle.laws.proofs.Lists.{getD-tabulate, set-tabulate-below}
+use Rattle.laws.proofs.Bits.{word-same, or-words, xor-words, xor-false}
 use Rattle.wheel.specs.declared.Wheel.{Wheel}
 use Rattle.wheel.specs.Hung.{Hung, Good, left, withLeft, started, stopped, spokeOf, turnsOf, hangs}
 use Rattle.wheel.specs.Inside.{tablesOf, bitOf, hungOn, hungIn, takenOff, takenIn, wayIn}

@@ -7,7 +7,7 @@ use lib.ListN.{length, set, replicate, length-set, length-map, length-replicate,
 use lib.Seq.{getD-set-same, getD-set-other, set-getD, set-out}
 use lib.Dec.{eqb, ltb}
 use borrow.Author.Tests.{eqb-true, eqb-false, ltb-true, ltb-false}
-use Rattle.laws.specs.Bools.{by-cases}
+use Rattle.laws.proofs.Bools.{by-cases}
 use Rattle.wheel.specs.Hung.{Hung, Good, left, empty, free, withLeft, started, stopped, ticked}
 
 -- ---- one timer's ticks left changed

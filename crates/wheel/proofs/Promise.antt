@@ -11,8 +11,9 @@ use native.Mathlib.Omega.{arith}
 use lib.ListN.{length, getD}
 use lib.Seq.{ext-getD}
 use lib.Dec.{eqb}
-use Rattle.laws.specs.Bits.{holds, members-word, among-length}
-use Rattle.laws.specs.Same.{exactly}
+use Rattle.laws.specs.Bits.{holds}
+use Rattle.laws.proofs.Bits.{members-word, among-length}
+use Rattle.laws.proofs.Same.{exactly}
 use Rattle.wheel.specs.declared.Wheel.{Wheel}
 use Rattle.wheel.specs.declared.Due.{Due}
 use Rattle.wheel.specs.Hung.{Hung, Good, left, empty, started, stopped, ticked, due, filled, spokeOf, turnsOf}

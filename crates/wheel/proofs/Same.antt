@@ -1,6 +1,7 @@
 -- The tests of the tables decide whether two wheels are one.
 -- Assumes nothing.
-use Rattle.laws.specs.Same.{Decides, numbers, lists, pairs, through}
+use Rattle.laws.specs.Same.{Decides}
+use Rattle.laws.proofs.Same.{numbers, lists, pairs, through}
 use Rattle.wheel.specs.declared.Wheel.{Wheel}
 use Rattle.wheel.specs.Inside.{sameTables}
 

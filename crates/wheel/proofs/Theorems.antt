@@ -8,8 +8,9 @@ use mathlib.Core.List.{List, [], _∷_}
 use native.Mathlib.Omega.{arith}
 use lib.Dec.{eqb}
 use borrow.Author.Tests.{eq-eqb, ne-eqb, eqb-true, eqb-false, lt-ltb, ltb-true, not-true}
-use Rattle.laws.specs.Bools.{by-cases, and-left, and-right}
-use Rattle.laws.specs.Bits.{has, has-among}
+use Rattle.laws.specs.Bits.{has}
+use Rattle.laws.proofs.Bools.{by-cases, and-left, and-right}
+use Rattle.laws.proofs.Bits.{has-among}
 use Rattle.wheel.specs.declared.Wheel.{Wheel}
 use Rattle.wheel.specs.declared.Ticked.{Ticked}
 use Rattle.wheel.specs.Hung.{Hung, Good, left, empty, free, withLeft, started, stopped, ticked, due, spokeOf}

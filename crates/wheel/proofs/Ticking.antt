@@ -8,8 +8,10 @@ use lib.ListN.{length, getD, set}
 use lib.Dec.{eqb, ltb}
 use lib.Bits.{bitXor}
 use borrow.Author.Tests.{lt-ltb}
-use Rattle.laws.specs.Lists.{getD-tabulate, set-tabulate-below, tabulate, tabulate-below}
-use Rattle.laws.specs.Bits.{wordOf, among, members, word-same, xor-words, members-word}
+use Rattle.laws.specs.Lists.{tabulate, among}
+use Rattle.laws.specs.Bits.{wordOf, members}
+use Rattle.laws.proofs.Lists.{getD-tabulate, set-tabulate-below, tabulate-below}
+use Rattle.laws.proofs.Bits.{word-same, xor-words, members-word}
 use Rattle.wheel.specs.Hung.{Hung, Good, left, ticked, spokeOf, turnsOf, hangs, onNext}
 use Rattle.wheel.specs.Inside.{tablesOf, lastTick, midst, moved, cleared, turnedIn}
 use Rattle.wheel.proofs.Lefts.{left-ticked}

@@ -6,8 +6,8 @@ use mathlib.Core.Bool.{false, cond, xor, _&&_}
 use native.Mathlib.Omega.{arith}
 use lib.Dec.{eqb}
 use borrow.Author.Tests.{eq-eqb, ne-eqb, eqb-true, eqb-false}
-use Rattle.laws.specs.Bools.{by-cases}
-use Rattle.laws.specs.Bits.{xor-false}
+use Rattle.laws.proofs.Bools.{by-cases}
+use Rattle.laws.proofs.Bits.{xor-false}
 use Rattle.wheel.specs.Hung.{spokeOf, turnsOf}
 
 -- a stopped timer hangs on no spoke

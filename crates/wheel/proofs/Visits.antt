@@ -10,9 +10,11 @@ use lib.ListN.{length, length-append, getD, set}
 use lib.Dec.{eqb, ltb}
 use lib.Bits.{bitOr}
 use borrow.Author.Tests.{eq-eqb, ne-eqb, eqb-true, eqb-false, lt-ltb, le-ltb, lt-leb, ltb-true, ltb-false}
-use Rattle.laws.specs.Lists.{getD-tabulate, set-tabulate-below, tabulate, tabulate-below}
-use Rattle.laws.specs.Bools.{by-cases, or-false, or-right}
-use Rattle.laws.specs.Bits.{wordOf, among, put, word-same, word-none, word-one, or-words, among-next}
+use Rattle.laws.specs.Lists.{tabulate, among, put}
+use Rattle.laws.specs.Bits.{wordOf}
+use Rattle.laws.proofs.Bools.{by-cases, or-false, or-right}
+use Rattle.laws.proofs.Lists.{getD-tabulate, set-tabulate-below, tabulate-below}
+use Rattle.laws.proofs.Bits.{word-same, word-none, word-one, or-words, among-next}
 use Rattle.wheel.specs.declared.Ticked.{Ticked}
 use Rattle.wheel.specs.Inside.{bitOf, midst, visit, visited}
 

@@ -8,7 +8,8 @@ use lib.ListN.{length, getD, set}
 use lib.Bits.{bitAnd, bitOr, bitXor, and-le-r}
 use lib.Count.{trailingZeros}
 use borrow.Author.Tests.{eq-eqb, ne-eqb}
-use Rattle.laws.specs.Bits.{members, holds, members-first, members-none, trailing-lt, among-length}
+use Rattle.laws.specs.Bits.{members, holds}
+use Rattle.laws.proofs.Bits.{members-first, members-none, trailing-lt, among-length}
 use Rattle.wheel.specs.declared.Wheel.{Wheel}
 use Rattle.wheel.specs.declared.Ticked.{Ticked}
 use Rattle.wheel.specs.Inside.{bitOf, midst, withoutSpoke, withoutTurn, visit, visited, cleared}

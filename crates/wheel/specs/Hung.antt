@@ -7,8 +7,7 @@ use mathlib.Core.Bool.{Bool, cond, _&&_}
 use mathlib.Core.List.{List, map}
 use lib.ListN.{length, getD, set, replicate}
 use lib.Dec.{eqb, ltb}
-use Rattle.laws.specs.Lists.{tabulate}
-use Rattle.laws.specs.Bits.{among}
+use Rattle.laws.specs.Lists.{tabulate, among}
 
 -- the tick count mod 64, and the ticks left to each timer in order of id
 pub record Hung : Type 0 where

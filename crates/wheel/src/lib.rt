@@ -2,6 +2,9 @@
 // position and by each timer's ticks left, and timers come due in order of id.
 use choice::both;
 use choice::same_bytes;
+use limits::NONE;
+use limits::TIMER_ROWS;
+use limits::TIMERS;
 use units::Ticks;
 ghost use mathlib.Core.Path.{_≡_};
 ghost use mathlib.Core.Logic.{_↔_};
@@ -12,13 +15,31 @@ ghost use Rattle.wheel.specs.Hung.{Hung, Good, empty, started, stopped, 
 ghost use Rattle.wheel.specs.Inside.{bitOf};
 ghost use Rattle.wheel.specs.Promise.{wheelOf, startedIn, stoppedIn, leftIn, tickedIn, tickedOf, idsOf, withoutFirst, first, rest};
 
+// The spokes.
+const SPOKES: usize = 64;
+
+// The same, of 8 bits.
+const SPOKES_8: u8 = SPOKES as u8;
+
+// The same, of 16 bits.
+const SPOKES_16: u16 = SPOKES as u16;
+
+// The same, of 32 bits.
+const SPOKES_32: u32 = SPOKES as u32;
+
+// The spoke in front of the first.
+const LAST_SPOKE: u32 = SPOKES_32 - 1;
+
+// The numbers that a count of ticks can be.
+const TICK_NUMBERS: u32 = 65536;
+
 pub struct Wheel {
     // The timers that hang on each spoke.
-    spokes: [u32; 64],
+    spokes: [u32; SPOKES],
     // The whole turns left to each timer, 0 for a stopped one.
-    turns: [u16; 32],
+    turns: [u16; TIMER_ROWS],
     // The spoke on which each timer hangs, 255 for a stopped one.
-    spoke: [u8; 32],
+    spoke: [u8; TIMER_ROWS],
     // The spoke last visited: the tick count mod 64.
     position: u8,
 }
@@ -39,18 +60,18 @@ pub struct Ticked {
 fn bit(id: u8) -> u32
     ensures { λ r. ⌜ r ≡ bitOf id ⌝ }
 {
-    if 32 <= id {
+    if TIMERS <= id {
         return 0;
     }
     1u32 << id
 }
 
 // The 64 spokes are the same.
-fn same_spokes(one: [u32; 64], other: [u32; 64]) -> bool
+fn same_spokes(one: [u32; SPOKES], other: [u32; SPOKES]) -> bool
     ensures { λ r. ⌜ r ≡ sameList eqb one other ⌝ }
 {
     let mut i: usize = 0;
-    while i < 64 {
+    while i < SPOKES {
         if one[i] != other[i] {
             return false;
         }
@@ -60,11 +81,11 @@ fn same_spokes(one: [u32; 64], other: [u32; 64]) -> bool
 }
 
 // The 32 numbers of turns are the same.
-fn same_turns(one: [u16; 32], other: [u16; 32]) -> bool
+fn same_turns(one: [u16; TIMER_ROWS], other: [u16; TIMER_ROWS]) -> bool
     ensures { λ r. ⌜ r ≡ sameList eqb one other ⌝ }
 {
     let mut i: usize = 0;
-    while i < 32 {
+    while i < TIMER_ROWS {
         if one[i] != other[i] {
             return false;
         }
@@ -78,10 +99,10 @@ impl Wheel {
     pub fn empty(count: u32) -> Wheel
         ensures { λ r. ⌜ r ≡ wheelOf (empty count) ⌝ }
     {
-        let spokes = [0u32; 64];
-        let turns = [0u16; 32];
-        let spoke = [255u8; 32];
-        let position = (count % 64) as u8;
+        let spokes = [0u32; SPOKES];
+        let turns = [0u16; TIMER_ROWS];
+        let spoke = [NONE; TIMER_ROWS];
+        let position = (count % SPOKES_32) as u8;
         Wheel {
             spokes,
             turns,
@@ -96,20 +117,20 @@ impl Wheel {
         ensures hung { λ r. ⌜ ((h : Hung) → Good h → self ≡ wheelOf h → r ≡ wheelOf (started h id (n .0))) ⌝ }
     {
         let i = id as usize;
-        if 32 <= i {
+        if TIMER_ROWS <= i {
             return self;
         }
-        if self.spoke[i] < 64 {
+        if self.spoke[i] < SPOKES_8 {
             return self;
         }
         let r = n.0;
         if r == 0 {
             return self;
         }
-        let at = (self.position as u32 + r as u32) % 64;
+        let at = (self.position as u32 + r as u32) % SPOKES_32;
         let s = at as usize;
         self.spokes[s] = self.spokes[s] | bit(id);
-        self.turns[i] = (r - 1) / 64;
+        self.turns[i] = (r - 1) / SPOKES_16;
         self.spoke[i] = at as u8;
         self
     }
@@ -120,16 +141,16 @@ impl Wheel {
         ensures hung { λ r. ⌜ ((h : Hung) → Good h → self ≡ wheelOf h → r ≡ wheelOf (stopped h id)) ⌝ }
     {
         let i = id as usize;
-        if 32 <= i {
+        if TIMER_ROWS <= i {
             return self;
         }
         let s = self.spoke[i] as usize;
-        if 64 <= s {
+        if SPOKES <= s {
             return self;
         }
         self.spokes[s] = self.spokes[s] ^ bit(id);
         self.turns[i] = 0;
-        self.spoke[i] = 255;
+        self.spoke[i] = NONE;
         self
     }
 
@@ -139,16 +160,16 @@ impl Wheel {
         ensures hung { λ r. ⌜ ((h : Hung) → Good h → self ≡ wheelOf h → r .0 ≡ left h id) ⌝ }
     {
         let i = id as usize;
-        if 32 <= i {
+        if TIMER_ROWS <= i {
             return Ticks(0);
         }
         let s = self.spoke[i] as u32;
-        if 64 <= s {
+        if SPOKES_32 <= s {
             return Ticks(0);
         }
         let t = self.turns[i] as u32;
-        let way = (s + 63 - self.position as u32 % 64) % 64;
-        Ticks(((t * 64 + way + 1) % 65536) as u16)
+        let way = (s + LAST_SPOKE - self.position as u32 % SPOKES_32) % SPOKES_32;
+        Ticks(((t * SPOKES_32 + way + 1) % TICK_NUMBERS) as u16)
     }
 
     // Moves to the next spoke, and visits the timers on it: one with turns left loses a turn, one with none comes due and is stopped.
@@ -157,7 +178,7 @@ impl Wheel {
         ensures hung { λ r. ⌜ ((h : Hung) → Good h → self ≡ wheelOf h → r ≡ tickedOf h) ⌝ }
         ensures order { λ r. ⌜ ((h : Hung) → Good h → self ≡ wheelOf h → idsOf (r .due) ≡ due h) ⌝ }
     {
-        let at = (self.position % 64 + 1) % 64;
+        let at = (self.position % SPOKES_8 + 1) % SPOKES_8;
         let here = at as usize;
         self.position = at;
         let mut rest = self.spokes[here];
@@ -167,7 +188,7 @@ impl Wheel {
             let id = u32::trailing_zeros(rest) as u8;
             let i = id as usize;
             if self.turns[i] == 0 {
-                self.spoke[i] = 255;
+                self.spoke[i] = NONE;
                 due = due | bit(id);
             } else {
                 self.turns[i] -= 1;

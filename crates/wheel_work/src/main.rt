@@ -1,6 +1,7 @@
 // Counts the work of a tick, the timers that it visits, with timers on the spoke that it visits, due or with a turn left, and on another.
 // The work is the number of timers on that spoke, however many hang elsewhere.
 use libc::STDOUT_FILENO;
+use limits::TIMERS;
 use units::Ticks;
 use wheel::Wheel;
 
@@ -38,8 +39,8 @@ fn main() {
     io::write_all(STDOUT_FILENO, b"on the spoke, in all, visits\n");
     write_line(0, 0, 0);
     let mut on: u8 = 0;
-    while on <= 32 {
-        write_line(on / 2, on, 32);
+    while on <= TIMERS {
+        write_line(on / 2, on, TIMERS);
         on += 1;
     }
 }

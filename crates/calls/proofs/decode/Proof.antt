@@ -105,7 +105,11 @@ returns-10 c = rw (c .before .match .keys10) (c .naming-a6 .ensures)
 
 returns-11 : tie.Need-returns-11
 unfolding decoded byCode
-returns-11 c = rw (c .before .before .before .match .keys11, ← c .before .number-of-row .ensures, ← c .before .before .kind-of .ensures) (c .naming-all .ensures)
+returns-11 c =
+    let at-number-of-row = c .before in
+    let at-kind-of = at-number-of-row .before in
+    let at-match = at-kind-of .before in
+    rw (at-match .match .keys11, ← at-number-of-row .number-of-row .ensures, ← at-kind-of .kind-of .ensures) (c .naming-all .ensures)
 
 returns-12 : tie.Need-returns-12
 unfolding decoded byCode

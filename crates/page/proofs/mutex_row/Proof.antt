@@ -17,7 +17,9 @@ returns : tie.Need-returns
 returns c = search needs
 
 returns-2 : tie.Need-returns-2
-returns-2 c = let len : length (c .before .args .t1) ≡ 16 = search cases in sym (List·getD-eq-default (c .before .args .t1) _ {n = c .before .args .m} (omega arith))
+returns-2 c =
+    let at-entry = c .before in
+    let len : length (at-entry .args .t1) ≡ 16 = search cases in sym (List·getD-eq-default (at-entry .args .t1) _ {n = at-entry .args .m} (omega arith))
 
 pub mutex-row-spec : {M : Type 1} → statement M
 mutex-row-spec = tie.close (tie.spec mul-result array-copy-out-result returns returns-2)

@@ -2,7 +2,7 @@
 use Prim.Native.Nat.{_<_, _≤_}
 use mathlib.Core.Path.{refl, subst}
 use lib.ListN.{length}
-use Rattle.laws.specs.Bools.{denied, not-not}
+use Rattle.laws.proofs.Bools.{denied, not-not}
 use Rattle.record.proofs.Saving.{unsound, short, done-save}
 use borrow.Author.Needs.{needs}
 use Rattle.record.proofs.save.Statement.{statement}
@@ -12,7 +12,10 @@ is-sound-requires : tie.Need-is-sound-requires
 is-sound-requires c κs = search needs
 
 returns : tie.Need-returns
-returns c = let a = c .before .before .before .args in unsound (a .kernel) (a .buffer .now) (c .before .is-sound .ensures) _ (denied _ (c .if1 .taken)) refl
+returns c =
+    let at-is-sound = c .before in
+    let at-entry = at-is-sound .before .before in
+    let a = at-entry .args in unsound (a .kernel) (a .buffer .now) (at-is-sound .is-sound .ensures) _ (denied _ (c .if1 .taken)) refl
 
 describe-requires : tie.Need-describe-requires
 describe-requires c κs = search needs
@@ -25,8 +28,13 @@ cast-if2 c = search needs
 
 returns-2 : tie.Need-returns-2
 returns-2 c =
-    let a = c .before .before .before .before .before .before .before .args in
-    short (a .kernel) (a .buffer .now) (c .before .before .before .before .before .is-sound .ensures) (not-not _ (c .before .before .before .before .if1 .left)) (c .before .before .describe .result) (c .before .before .describe .ensures .1) _ (subst (λ k. length (a .buffer .now) < k) (c .before .total .ensures) (c .if2 .taken)) refl
+    let at-total = c .before in
+    let at-describe = at-total .before in
+    let at-if1 = at-describe .before .before in
+    let at-is-sound = at-if1 .before in
+    let at-entry = at-is-sound .before .before in
+    let a = at-entry .args in
+    short (a .kernel) (a .buffer .now) (at-is-sound .is-sound .ensures) (not-not _ (at-if1 .if1 .left)) (at-describe .describe .result) (at-describe .describe .ensures .1) _ (subst (λ k. length (a .buffer .now) < k) (at-total .total .ensures) (c .if2 .taken)) refl
 
 write-requires : tie.Need-write-requires
 write-requires c κs = search needs
@@ -36,9 +44,16 @@ same-length c = search needs
 
 returns-3 : tie.Need-returns-3
 returns-3 c =
-    let a = c .before .before .before .before .before .before .before .before .before .before .before .args in
-    let n = c .before .before .before .before .before .total .ensures in
-    done-save (a .kernel) (a .buffer .now) (c .before .before .before .before .before .before .before .before .before .is-sound .ensures) (not-not _ (c .before .before .before .before .before .before .before .before .if1 .left)) (c .before .before .before .before .before .before .describe .result) (c .before .before .before .before .before .before .describe .ensures .1) _ _ (subst (λ k. k ≤ length (a .buffer .now)) n (c .before .before .before .before .if2 .left)) (λ i. record { answer = 0; length = n i }) (c .before .before .write .ensures)
+    let at-write = c .before .before in
+    let at-if2 = at-write .before .before in
+    let at-total = at-if2 .before in
+    let at-describe = at-total .before in
+    let at-if1 = at-describe .before .before in
+    let at-is-sound = at-if1 .before in
+    let at-entry = at-is-sound .before .before in
+    let a = at-entry .args in
+    let n = at-total .total .ensures in
+    done-save (a .kernel) (a .buffer .now) (at-is-sound .is-sound .ensures) (not-not _ (at-if1 .if1 .left)) (at-describe .describe .result) (at-describe .describe .ensures .1) _ _ (subst (λ k. k ≤ length (a .buffer .now)) n (at-if2 .if2 .left)) (λ i. record { answer = 0; length = n i }) (at-write .write .ensures)
 
 pub save-spec : {M : Type 1} → statement M
 save-spec =

@@ -3,7 +3,8 @@ use Prim.Native.Nat.{_-_}
 use lib.Dec.{eqb}
 use borrow.Author.Tests.{eq-eqb, ne-eqb}
 use borrow.Author.Needs.{needs}
-use Rattle.laws.specs.Same.{Comparing, compare-none, compare-differs, compare-next, compare-all}
+use Rattle.laws.specs.Same.{Comparing}
+use Rattle.laws.proofs.Same.{compare-none, compare-differs, compare-next, compare-all}
 use Rattle.wheel.proofs.same_turns.Statement.{statement}
 use Rattle.wheel.proofs.same_turns.Tie as tie
 
@@ -30,8 +31,9 @@ array-read-if1-2 c = search needs
 
 returns : tie.Need-returns Inv-loop μ-loop
 returns c =
-    let a = c .before .before in
-    compare-differs eqb (a .before .args .t1) (a .before .args .t2) _ _ (search needs) (search needs) (a .loop .inv) _ (c .before .loop-test .taken) (ne-eqb _ _ (c .if1 .taken))
+    let at-loop-test = c .before in
+    let a = at-loop-test .before in
+    compare-differs eqb (a .before .args .t1) (a .before .args .t2) _ _ (search needs) (search needs) (a .loop .inv) _ (at-loop-test .loop-test .taken) (ne-eqb _ _ (c .if1 .taken))
 
 add-i : tie.Need-add-i Inv-loop μ-loop
 add-i c = search needs
@@ -41,8 +43,9 @@ loop-less c = search needs
 
 loop-again : tie.Need-loop-again Inv-loop μ-loop
 loop-again c =
-    let a = c .before .before in
-    compare-next eqb (a .before .args .t1) (a .before .args .t2) _ _ (search needs) (search needs) (a .loop .inv) _ (c .before .loop-test .taken) (eq-eqb _ _ (c .if1 .left))
+    let at-loop-test = c .before in
+    let a = at-loop-test .before in
+    compare-next eqb (a .before .args .t1) (a .before .args .t2) _ _ (search needs) (search needs) (a .loop .inv) _ (at-loop-test .loop-test .taken) (eq-eqb _ _ (c .if1 .left))
 
 returns-2 : tie.Need-returns-2 Inv-loop μ-loop
 returns-2 c =

@@ -18,13 +18,21 @@ wrong-row-requires : tie.Need-wrong-row-requires
 wrong-row-requires c κs = search needs
 
 returns : tie.Need-returns
-returns c = subst (λ d. Steps (c .before .before .before .before .args .self) d (c .wrong-row .result)) (sym (sym (c .before .before .before .decode .ensures) ∙ c .before .enum-told .given .1)) (c .wrong-row .ensures)
+returns c =
+    let at-enum-told = c .before in
+    let at-decode = at-enum-told .before .before in
+    let at-entry = at-decode .before in
+    subst (λ d. Steps (at-entry .args .self) d (c .wrong-row .result)) (sym (sym (at-decode .decode .ensures) ∙ at-enum-told .enum-told .given .1)) (c .wrong-row .ensures)
 
 step-requires : tie.Need-step-requires
 step-requires c κs = search needs
 
 returns-2 : tie.Need-returns-2
-returns-2 c = subst (λ d. Steps (c .before .before .before .before .before .args .self) d (c .step .result)) (sym (sym (c .before .before .before .before .decode .ensures) ∙ c .before .before .decoded .given .1)) (c .step .ensures)
+returns-2 c =
+    let at-decoded = c .before .before in
+    let at-decode = at-decoded .before .before in
+    let at-entry = at-decode .before in
+    subst (λ d. Steps (at-entry .args .self) d (c .step .result)) (sym (sym (at-decode .decode .ensures) ∙ at-decoded .decoded .given .1)) (c .step .ensures)
 
 pub step-row-spec : {M : Type 1} → statement M
 step-row-spec =

@@ -1,6 +1,6 @@
 -- `Kernel::wrong_row` meets its contract: refused, or the engine's 17. Assumes nothing.
 use mathlib.Core.Path.{refl}
-use Rattle.laws.specs.Bools.{denied, not-not}
+use Rattle.laws.proofs.Bools.{denied, not-not}
 use Rattle.calls.specs.declared.Decoded.the-variants.{WrongForm}
 use Rattle.kernel.proofs.Promised.{unsound-steps, sound-steps}
 use borrow.Author.Needs.{needs}
@@ -14,7 +14,11 @@ refused-requires : tie.Need-refused-requires
 refused-requires c κs = search needs
 
 returns : tie.Need-returns
-returns c = unsound-steps (c .before .before .before .args .self) (c .before .before .is-sound .ensures) WrongForm _ (denied _ (c .before .if1 .taken)) (c .refused .ensures)
+returns c =
+    let at-if1 = c .before in
+    let at-is-sound = at-if1 .before in
+    let at-entry = at-is-sound .before in
+    unsound-steps (at-entry .args .self) (at-is-sound .is-sound .ensures) WrongForm _ (denied _ (at-if1 .if1 .taken)) (c .refused .ensures)
 
 wrong-row-requires : tie.Need-wrong-row-requires
 wrong-row-requires c κs = search needs

@@ -1,6 +1,6 @@
 -- `Links::back` does what its definition says. Assumes nothing.
 use Rattle.queue.proofs.Cases.{cases}
-use Rattle.queue.specs.Models.{backModel}
+use Rattle.queue.specs.Linking.{backModel}
 use borrow.Author.Needs.{needs}
 use Rattle.queue.proofs.Links.back.Statement.{statement}
 use Rattle.queue.proofs.Links.back.Tie as tie

@@ -1,5 +1,5 @@
 -- `Links::empty` is what its definition says. Assumes nothing.
-use Rattle.queue.specs.Models.{emptyLinks}
+use Rattle.queue.specs.Linking.{emptyLinks}
 use mathlib.Core.Path.{refl}
 use Rattle.queue.proofs.Links.empty.Statement.{statement}
 use Rattle.queue.proofs.Links.empty.Tie as tie

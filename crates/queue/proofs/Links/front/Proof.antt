@@ -1,6 +1,6 @@
 -- `Links::front` does what its definition says. Assumes nothing.
 use Rattle.queue.proofs.Cases.{cases}
-use Rattle.queue.specs.Models.{frontModel}
+use Rattle.queue.specs.Linking.{frontModel}
 use borrow.Author.Needs.{needs}
 use Rattle.queue.proofs.Links.front.Statement.{statement}
 use Rattle.queue.proofs.Links.front.Tie as tie

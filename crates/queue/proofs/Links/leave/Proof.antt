@@ -1,7 +1,7 @@
 -- `Links::leave` does what its definition says. Assumes nothing.
 use borrow.Author.Tests.{lt-ltb, le-ltb}
 use Rattle.queue.proofs.Cases.{cases}
-use Rattle.queue.specs.Models.{leaveModel}
+use Rattle.queue.specs.Linking.{leaveModel}
 use borrow.Author.Needs.{needs}
 use Rattle.queue.proofs.Links.leave.Statement.{statement}
 use Rattle.queue.proofs.Links.leave.Tie as tie
@@ -28,7 +28,10 @@ empty-requires c κs = search needs
 
 returns-3 : tie.Need-returns-3
 unfolding leaveModel
-returns-3 c = rw (c .empty .ensures, lt-ltb _ _ (c .before .before .before .if1 .left), le-ltb _ _ (c .before .if2 .left))
+returns-3 c =
+    let at-if2 = c .before in
+    let at-if1 = at-if2 .before .before in
+    rw (c .empty .ensures, lt-ltb _ _ (at-if1 .if1 .left), le-ltb _ _ (at-if2 .if2 .left))
 
 pub leave-spec : {M : Type 1} → statement M
 leave-spec =

@@ -1,5 +1,5 @@
 -- `Queues::empty` is what its definition says. Assumes nothing.
-use Rattle.queue.specs.Models.{emptyQueues}
+use Rattle.queue.specs.Linking.{emptyQueues}
 use borrow.Author.Needs.{needs}
 use Rattle.queue.proofs.Queues.empty.Statement.{statement}
 use Rattle.queue.proofs.Queues.empty.Tie as tie

@@ -6,7 +6,7 @@ use native.Mathlib.Omega.{arith}
 use lib.ListN.{length}
 use borrow.Author.Needs.{needs}
 use borrow.Author.Tests.{lt-ltb, le-ltb}
-use Rattle.queue.specs.Models.{hasFirst, highestBelow, highestModel}
+use Rattle.queue.specs.Linking.{hasFirst, highestBelow, highestModel}
 use Rattle.queue.proofs.Cases.{cases}
 use Rattle.queue.proofs.Searches.{search-none, search-found, search-passed, test-at}
 use Rattle.queue.proofs.Queues.highest.Statement.{statement}
@@ -61,9 +61,11 @@ loop-again c =
 
 returns-2 : tie.Need-returns-2 Inv-loop μ-loop
 returns-2 c =
-    let s = c .before .before .args .t1 in
-    let z : 16 - c .before .loop .passed ≡ 0 = omega arith in
-    sym (c .before .loop .inv .1 ∙ ap (highestBelow (hasFirst s) 16) z ∙ search-none (hasFirst s) 16)
+    let at-loop = c .before in
+    let at-entry = at-loop .before in
+    let s = at-entry .args .t1 in
+    let z : 16 - at-loop .loop .passed ≡ 0 = omega arith in
+    sym (at-loop .loop .inv .1 ∙ ap (highestBelow (hasFirst s) 16) z ∙ search-none (hasFirst s) 16)
 
 pub highest-spec : {M : Type 1} → statement M
 highest-spec =

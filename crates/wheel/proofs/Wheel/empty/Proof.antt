@@ -2,10 +2,10 @@
 use borrow.Author.Needs.{needs}
 use mathlib.Core.Path.{sym}
 use Rattle.laws.specs.Lists.{tabulate}
+use Rattle.laws.specs.Bits.{wordOf}
 use Rattle.wheel.specs.Hung.{empty, spokeOf, turnsOf, hangs}
 use Rattle.wheel.specs.Inside.{tablesOf}
 use Rattle.wheel.specs.Promise.Opened.{wheel-is}
-use Rattle.laws.specs.Bits.{wordOf}
 use Rattle.wheel.proofs.Wheel.empty.Statement.{statement}
 use Rattle.wheel.proofs.Wheel.empty.Tie as tie
 

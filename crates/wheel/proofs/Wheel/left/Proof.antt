@@ -25,8 +25,10 @@ cast-s c = search needs
 returns-2 : tie.Need-returns-2
 unfolding wayIn
 returns-2 c =
-    let a = c .before .before .before .args in
-    left-promise (a .t1) (a .id) _ (rw (lt-leb _ _ (c .before .before .if1 .left), le-leb _ _ (c .if2 .taken)))
+    let at-if1 = c .before .before in
+    let at-entry = at-if1 .before in
+    let a = at-entry .args in
+    left-promise (a .t1) (a .id) _ (rw (lt-leb _ _ (at-if1 .if1 .left), le-leb _ _ (c .if2 .taken)))
 
 mul-t : tie.Need-mul-t
 mul-t c = search needs
@@ -64,9 +66,12 @@ cast-t15 c = search needs
 returns-3 : tie.Need-returns-3
 unfolding wayIn
 returns-3 c =
-    let a = c .before .before .before .before .args in
+    let at-if2 = c .before in
+    let at-if1 = at-if2 .before .before in
+    let at-entry = at-if1 .before in
+    let a = at-entry .args in
     left-promise (a .t1) (a .id) _
-    (rw (lt-leb _ _ (c .before .before .before .if1 .left), lt-leb _ _ (c .before .if2 .left)))
+    (rw (lt-leb _ _ (at-if1 .if1 .left), lt-leb _ _ (at-if2 .if2 .left)))
 
 pub left-spec : {M : Type 1} → statement M
 left-spec =

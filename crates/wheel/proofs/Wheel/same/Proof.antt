@@ -1,5 +1,5 @@
 -- `wheel::Wheel::same` meets its contract: each table by its own test, and the tests decide. Assumes nothing.
-use Rattle.laws.specs.Same.{exactly}
+use Rattle.laws.proofs.Same.{exactly}
 use Rattle.wheel.specs.Inside.{sameTables}
 use Rattle.wheel.proofs.Same.{wheels}
 use borrow.Author.Needs.{needs}
@@ -26,8 +26,14 @@ both-requires-3 c κs = search needs
 
 returns : tie.Need-returns
 unfolding sameTables
-returns c = exactly wheels _ _ _
-    (rw (c .both3 .ensures, c .before .both2 .ensures, c .before .before .both .ensures, c .before .before .before .before .before .same-bytes .ensures, c .before .before .before .before .before .before .before .before .same-turns .ensures, c .before .before .before .before .before .before .before .before .before .before .before .same-spokes .ensures))
+returns c =
+    let at-both2 = c .before in
+    let at-both = at-both2 .before in
+    let at-same-bytes = at-both .before .before .before in
+    let at-same-turns = at-same-bytes .before .before .before in
+    let at-same-spokes = at-same-turns .before .before .before in
+    exactly wheels _ _ _
+    (rw (c .both3 .ensures, at-both2 .both2 .ensures, at-both .both .ensures, at-same-bytes .same-bytes .ensures, at-same-turns .same-turns .ensures, at-same-spokes .same-spokes .ensures))
 
 pub same-spec : {M : Type 1} → statement M
 same-spec =

@@ -9,7 +9,9 @@ use Rattle.wheel.proofs.Wheel.start.Tie as tie
 
 returns : tie.Need-returns
 unfolding hungIn
-returns c = start-promise (c .before .args .t1) (c .before .args .id) (c .before .args .n .0) _ (rw (le-leb _ _ (c .if1 .taken)))
+returns c =
+    let at-entry = c .before in
+    start-promise (at-entry .args .t1) (at-entry .args .id) (at-entry .args .n .0) _ (rw (le-leb _ _ (c .if1 .taken)))
 
 element-copy-out-if2 : tie.Need-element-copy-out-if2
 element-copy-out-if2 c = search needs
@@ -17,15 +19,20 @@ element-copy-out-if2 c = search needs
 returns-2 : tie.Need-returns-2
 unfolding hungIn
 returns-2 c =
-    let a = c .before .before .before .args in
-    start-promise (a .t1) (a .id) (a .n .0) _ (rw (lt-leb _ _ (c .before .before .if1 .left), lt-ltb _ _ (c .if2 .taken)))
+    let at-if1 = c .before .before in
+    let at-entry = at-if1 .before in
+    let a = at-entry .args in
+    start-promise (a .t1) (a .id) (a .n .0) _ (rw (lt-leb _ _ (at-if1 .if1 .left), lt-ltb _ _ (c .if2 .taken)))
 
 returns-3 : tie.Need-returns-3
 unfolding hungIn
 returns-3 c =
-    let a = c .before .before .before .before .args in
+    let at-if2 = c .before in
+    let at-if1 = at-if2 .before .before in
+    let at-entry = at-if1 .before in
+    let a = at-entry .args in
     start-promise (a .t1) (a .id) (a .n .0) _
-    (rw (lt-leb _ _ (c .before .before .before .if1 .left), le-ltb _ _ (c .before .if2 .left), eq-eqb _ _ (c .if3 .taken)))
+    (rw (lt-leb _ _ (at-if1 .if1 .left), le-ltb _ _ (at-if2 .if2 .left), eq-eqb _ _ (c .if3 .taken)))
 
 cast-at : tie.Need-cast-at
 cast-at c = search needs
@@ -72,12 +79,16 @@ element-write-self-3 c = search needs
 returns-4 : tie.Need-returns-4
 unfolding hungIn hungOn turnsOf
 returns-4 c =
-    let a = c .before .before .before .before .before .before .args in
+    let at-if3 = c .before .before in
+    let at-if2 = at-if3 .before in
+    let at-if1 = at-if2 .before .before in
+    let at-entry = at-if1 .before in
+    let a = at-entry .args in
     start-promise (a .t1) (a .id) (a .n .0) _
     (rw (
-      lt-leb _ _ (c .before .before .before .before .before .if1 .left),
-      le-ltb _ _ (c .before .before .before .if2 .left),
-      ne-eqb _ _ (c .before .before .if3 .left),
+      lt-leb _ _ (at-if1 .if1 .left),
+      le-ltb _ _ (at-if2 .if2 .left),
+      ne-eqb _ _ (at-if3 .if3 .left),
       c .bit .ensures,
     ))
 

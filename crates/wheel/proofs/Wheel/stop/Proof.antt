@@ -19,8 +19,10 @@ cast-s c = search needs
 returns-2 : tie.Need-returns-2
 unfolding takenIn
 returns-2 c =
-    let a = c .before .before .before .args in
-    stop-promise (a .t1) (a .id) _ (rw (lt-leb _ _ (c .before .before .if1 .left), le-leb _ _ (c .if2 .taken)))
+    let at-if1 = c .before .before in
+    let at-entry = at-if1 .before in
+    let a = at-entry .args in
+    stop-promise (a .t1) (a .id) _ (rw (lt-leb _ _ (at-if1 .if1 .left), le-leb _ _ (c .if2 .taken)))
 
 mul-self : tie.Need-mul-self
 mul-self c = search needs
@@ -49,9 +51,12 @@ element-write-self-3 c = search needs
 returns-3 : tie.Need-returns-3
 unfolding takenIn takenOff
 returns-3 c =
-    let a = c .before .before .before .before .before .args in
+    let at-if2 = c .before .before in
+    let at-if1 = at-if2 .before .before in
+    let at-entry = at-if1 .before in
+    let a = at-entry .args in
     stop-promise (a .t1) (a .id) _
-    (rw (lt-leb _ _ (c .before .before .before .before .if1 .left), lt-leb _ _ (c .before .before .if2 .left), c .bit .ensures))
+    (rw (lt-leb _ _ (at-if1 .if1 .left), lt-leb _ _ (at-if2 .if2 .left), c .bit .ensures))
 
 pub stop-spec : {M : Type 1} → statement M
 stop-spec =

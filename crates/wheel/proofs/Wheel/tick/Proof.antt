@@ -89,10 +89,12 @@ loop-less c =
 
 loop-again : tie.Need-loop-again Inv-loop μ-loop
 loop-again c =
-    let g = c .before .before .before .loop .inv in
-    let l = c .before .before .loop-test .taken in
+    let at-loop-test = c .before .before in
+    let at-loop = at-loop-test .before in
+    let g = at-loop .loop .inv in
+    let l = at-loop-test .loop-test .taken in
     ⊎-elim
-    (λ w. goes-due _ _ _ _ _ _ g l _ _ (w .0 .taken) (w .2) (w .3 ∙ ap (bitOr (c .before .before .before .loop .due)) (w .1 .ensures)))
+    (λ w. goes-due _ _ _ _ _ _ g l _ _ (w .0 .taken) (w .2) (w .3 ∙ ap (bitOr (at-loop .loop .due)) (w .1 .ensures)))
     (λ w. goes-round _ _ _ _ _ _ g l _ _ (w .0 .left) (w .2) (w .3))
     (c .if1 .came)
 
@@ -111,8 +113,10 @@ element-write-self-3 c = search needs
 returns : tie.Need-returns Inv-loop μ-loop
 unfolding turnedIn moved
 returns c =
-    let l = c .before .before .loop in
-    let a = c .before .before .before .before .args .t1 in
+    let at-loop = c .before .before in
+    let at-entry = at-loop .before .before in
+    let l = at-loop .loop in
+    let a = at-entry .args .t1 in
     let z : l .rest ≡ 0 = omega arith in
     tick-promise a (clearedAt ((a .position % 64 + 1) % 64) (l .self) (l .due) (l .visits)) (gone _ _ _ _ _ _ (l .inv) z)
 

@@ -1,0 +1,1 @@
+"""The benchmark: plain C of the same rules, and what is measured."""

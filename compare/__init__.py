@@ -1,0 +1,1 @@
+"""Comparisons with the second program, and trials of the words."""

@@ -1,0 +1,5 @@
+pub mod Bools
+pub mod Lists
+pub mod Bits
+pub mod Filling
+pub mod Same

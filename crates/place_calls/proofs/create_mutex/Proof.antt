@@ -1,0 +1,84 @@
+-- `create_mutex` meets its contract, by `refused` and `accepted`. Assumes nothing.
+use borrow.Author.Needs.{needs}
+use Prim.Native.Nat.{_+_, _%_}
+use mathlib.Core.Path.{ap, _∙_}
+use Rattle.value_engine.specs.Engines.{withScheduler, createMutexModel}
+use Rattle.place_calls.specs.declared.Counts.{Counts}
+use Rattle.place_calls.specs.declared.Counted.{Counted}
+use Rattle.place_calls.specs.Standing.{engineIn, steppedIn}
+use Rattle.place_calls.proofs.Judging.{refused, accepted}
+use Rattle.place_calls.proofs.create_mutex.Statement.{statement}
+use Rattle.place_calls.proofs.create_mutex.Tie as tie
+
+created-verdict-requires : tie.Need-created-verdict-requires
+created-verdict-requires c κs = search needs
+
+number-requires : tie.Need-number-requires
+number-requires c κs = search needs
+
+refuse-requires : tie.Need-refuse-requires
+refuse-requires c κs = search needs
+
+with-answer-requires : tie.Need-with-answer-requires
+with-answer-requires c κs = search needs
+
+returns : tie.Need-returns
+unfolding createMutexModel
+returns c =
+    let at-refuse = c .before in
+    let at-if1 = at-refuse .before .before in
+    let at-number = at-if1 .before in
+    let at-created-verdict = at-number .before in
+    let at-entry = at-created-verdict .before in
+    λ clock.
+    let a = at-entry .args in
+    let x = engineIn (a .cells .now) clock (a .counts) in
+    ap (λ (r : Counted). steppedIn (a .cells .now) clock (r .counts) (r .answer)) (c .with-answer .ensures)
+    ∙ refused x (a .counts .mutexes) _ _ _ (at-number .number .ensures) (at-created-verdict .created-verdict .ensures) _ _ (at-refuse .refuse .ensures) (at-if1 .if1 .taken)
+
+create-mutex-requires : tie.Need-create-mutex-requires
+create-mutex-requires c κs = search needs
+
+add-counts : tie.Need-add-counts
+add-counts c = search needs
+
+cast-finish : tie.Need-cast-finish
+cast-finish c = search needs
+
+finish-requires : tie.Need-finish-requires
+finish-requires c κs = search needs
+
+with-answer-requires-2 : tie.Need-with-answer-requires-2
+with-answer-requires-2 c κs = search needs
+
+returns-2 : tie.Need-returns-2
+unfolding createMutexModel
+returns-2 c =
+    let at-finish = c .before in
+    let at-create-mutex = at-finish .before .before in
+    let at-if1 = at-create-mutex .before .before in
+    let at-number = at-if1 .before in
+    let at-created-verdict = at-number .before in
+    let at-entry = at-created-verdict .before in
+    λ clock.
+    let a = at-entry .args in
+    let x = engineIn (a .cells .now) clock (a .counts) in
+    let n : Counts = record { started = a .counts .started; threads = a .counts .threads; mutexes = a .counts .mutexes % 16 + 1; conditions = a .counts .conditions; timercount = a .counts .timercount } in
+    ap (λ (r : Counted). steppedIn (at-finish .finish .last .0) clock (r .counts) (r .answer)) (c .with-answer2 .ensures)
+    ∙ accepted x (a .counts .mutexes) _ _ _ (at-number .number .ensures) (at-created-verdict .created-verdict .ensures) _ _ _ (at-finish .finish .ensures clock) (ap (withScheduler (engineIn (at-create-mutex .create-mutex .last .0) clock n)) (at-create-mutex .create-mutex .ensures)) (at-if1 .if1 .left)
+
+pub create-mutex-spec : {M : Type 1} → statement M
+create-mutex-spec =
+    tie.close
+    (tie.spec
+    created-verdict-requires
+    number-requires
+    refuse-requires
+    with-answer-requires
+    returns
+    create-mutex-requires
+    add-counts
+    cast-finish
+    finish-requires
+    with-answer-requires-2
+    returns-2)

@@ -1,0 +1,65 @@
+-- `signal` meets its contract, by `refused` and `accepted`. Assumes nothing.
+use borrow.Author.Needs.{needs}
+use mathlib.Core.Bool.{false}
+use Rattle.value_effects.specs.declared.Signalled.{Signalled}
+use mathlib.Core.Path.{ap, _∙_}
+use Rattle.value_engine.specs.Engines.{withScheduler, signalModel, answeredModel}
+use Rattle.place_calls.specs.Standing.{engineIn}
+use Rattle.place_calls.proofs.Judging.{refused, accepted}
+use Rattle.place_calls.proofs.signal.Statement.{statement}
+use Rattle.place_calls.proofs.signal.Tie as tie
+
+id-verdict-requires : tie.Need-id-verdict-requires
+id-verdict-requires c κs = search needs
+
+number-requires : tie.Need-number-requires
+number-requires c κs = search needs
+
+refuse-requires : tie.Need-refuse-requires
+refuse-requires c κs = search needs
+
+returns : tie.Need-returns
+unfolding signalModel
+returns c =
+    let at-if1 = c .before .before in
+    let at-number = at-if1 .before in
+    let at-id-verdict = at-number .before in
+    let at-entry = at-id-verdict .before in
+    λ clock.
+    let a = at-entry .args in
+    let x = engineIn (a .cells .now) clock (a .counts) in
+    refused x _ _ _ _ (at-number .number .ensures) (at-id-verdict .id-verdict .ensures) _ _ (c .refuse .ensures) (at-if1 .if1 .taken)
+
+signal-requires : tie.Need-signal-requires
+signal-requires c κs = search needs
+
+finish-requires : tie.Need-finish-requires
+finish-requires c κs = search needs
+
+returns-2 : tie.Need-returns-2
+unfolding signalModel
+returns-2 c =
+    let at-signal = c .before .before in
+    let at-if1 = at-signal .before .before in
+    let at-number = at-if1 .before in
+    let at-id-verdict = at-number .before in
+    let at-entry = at-id-verdict .before in
+    λ clock.
+    let a = at-entry .args in
+    let x = engineIn (a .cells .now) clock (a .counts) in
+    let e = at-signal .signal .ensures in
+    accepted x _ _ _ _ (at-number .number .ensures) (at-id-verdict .id-verdict .ensures) _ _ _
+    (c .finish .ensures clock ∙ ap (λ (g : Signalled). answeredModel (engineIn (at-signal .signal .last .0) clock (a .counts)) (g .left) false) e)
+    (ap (λ (g : Signalled). withScheduler x (g .scheduler)) e) (at-if1 .if1 .left)
+
+pub signal-spec : {M : Type 1} → statement M
+signal-spec =
+    tie.close
+    (tie.spec
+    id-verdict-requires
+    number-requires
+    refuse-requires
+    returns
+    signal-requires
+    finish-requires
+    returns-2)

@@ -1,0 +1,63 @@
+-- `tally_rows_by_value` meets its contract. The invariant: going on from row i gives what the whole gives. The measure is how many rows are left. Assumes nothing.
+use Prim.Native.Nat.{_≤_, _-_, _/_}
+use mathlib.Core.Path.{_≡_, refl, sym, _∙_}
+use native.Mathlib.Omega.{arith}
+use borrow.Author.Needs.{needs}
+use lib.ListN.{length}
+use Rattle.run_tally.proofs.Walking.{fromRow, row-on, rows-end}
+use Rattle.run_tally.proofs.tally_rows_by_value.Statement.{statement}
+use Rattle.run_tally.proofs.tally_rows_by_value.Tie as tie
+
+abbrev Inv-loop : tie.InvT-loop
+Inv-loop rows count reached₀ i₀ reached i = (count ≡ length rows / 8) × (i ≤ count) × (fromRow i reached rows ≡ fromRow 0 reached₀ rows)
+
+abbrev μ-loop : tie.MeasureT-loop
+μ-loop rows count reached₀ i₀ reached i = count - i
+
+loop-holds : tie.Need-loop-holds Inv-loop μ-loop
+loop-holds c = (refl, omega arith, refl)
+
+mul-row-at : tie.Need-mul-row-at Inv-loop μ-loop
+mul-row-at c = omega arith
+
+row-at-requires : tie.Need-row-at-requires Inv-loop μ-loop
+row-at-requires c κs = search needs
+
+tally-row-by-value-requires : tie.Need-tally-row-by-value-requires Inv-loop μ-loop
+tally-row-by-value-requires c κs = search needs
+
+add-i : tie.Need-add-i Inv-loop μ-loop
+add-i c = omega arith
+
+loop-less : tie.Need-loop-less Inv-loop μ-loop
+loop-less c = omega arith
+
+loop-again : tie.Need-loop-again Inv-loop μ-loop
+loop-again c =
+    let at-row-at = c .before in
+    let at-loop = at-row-at .before .before in
+    let at-entry = at-loop .before .before in
+    let l = at-loop .loop in
+    (l .inv .0, omega arith, rw (c .tally-row-by-value .ensures, at-row-at .row-at .ensures) (sym (row-on (l .reached) (at-entry .args .rows .now) (l .i) (omega arith)) ∙ l .inv .2))
+
+returns : tie.Need-returns Inv-loop μ-loop
+returns c =
+    let at-loop = c .before in
+    let at-entry = at-loop .before .before in
+    let l = at-loop .loop in
+    rows-end (l .reached) _ (at-entry .args .rows .now) (l .i) (omega arith) (l .inv .2)
+
+pub tally-rows-by-value-spec : {M : Type 1} → statement M
+tally-rows-by-value-spec =
+    tie.close
+    (tie.spec
+    Inv-loop
+    μ-loop
+    loop-holds
+    mul-row-at
+    row-at-requires
+    tally-row-by-value-requires
+    add-i
+    loop-less
+    loop-again
+    returns)

@@ -1,0 +1,74 @@
+-- `condition_waiters_fit` meets its contract. The invariant: the threads left decide as all do. The measure is what is left. Assumes nothing.
+use borrow.Author.Needs.{needs}
+use mathlib.Core.Path.{_≡_, refl, sym, _∙_}
+use borrow.Author.Tests.{not-true, not-false}
+use Rattle.rules.specs.Sound.{each}
+use Rattle.sound_objects.specs.Objects.{conditionWaiterAt, conditionWaitersFit}
+use Rattle.sound_standing.proofs.Loops.{each-on, each-out, each-end}
+use Rattle.sound_objects.proofs.condition_waiters_fit.Statement.{statement}
+use Rattle.sound_objects.proofs.condition_waiters_fit.Tie as tie
+
+abbrev Inv-loop : tie.InvT-loop
+Inv-loop mutexes known c ceiling rows t₀ t = each t (conditionWaiterAt rows mutexes known c ceiling) ≡ conditionWaitersFit rows mutexes known c ceiling
+
+abbrev μ-loop : tie.MeasureT-loop
+μ-loop mutexes known c ceiling rows t₀ t = t
+
+loop-holds : tie.Need-loop-holds Inv-loop μ-loop
+unfolding conditionWaitersFit
+loop-holds c = refl
+
+sub-t : tie.Need-sub-t Inv-loop μ-loop
+sub-t c = search needs
+
+cast-i : tie.Need-cast-i Inv-loop μ-loop
+cast-i c = search needs
+
+mul-row : tie.Need-mul-row Inv-loop μ-loop
+mul-row c = search needs
+
+array-copy-out-row : tie.Need-array-copy-out-row Inv-loop μ-loop
+array-copy-out-row c = search needs
+
+condition-waiter-fits-requires : tie.Need-condition-waiter-fits-requires Inv-loop μ-loop
+condition-waiter-fits-requires c κs = search needs
+
+returns : tie.Need-returns Inv-loop μ-loop
+unfolding conditionWaitersFit
+returns c =
+    let at-condition-waiter-fits = c .before in
+    let at-loop-test = at-condition-waiter-fits .before .before in
+    let at-loop = at-loop-test .before in
+    each-out _ _ _ (at-loop-test .loop-test .taken) (at-loop .loop .inv) (sym (at-condition-waiter-fits .condition-waiter-fits .ensures) ∙ not-true _ (c .if1 .taken))
+
+loop-less : tie.Need-loop-less Inv-loop μ-loop
+loop-less c = search needs
+
+loop-again : tie.Need-loop-again Inv-loop μ-loop
+unfolding conditionWaitersFit
+loop-again c =
+    let at-condition-waiter-fits = c .before in
+    let at-loop-test = at-condition-waiter-fits .before .before in
+    let at-loop = at-loop-test .before in
+    each-on _ _ _ (at-loop-test .loop-test .taken) (at-loop .loop .inv) (sym (at-condition-waiter-fits .condition-waiter-fits .ensures) ∙ not-false _ (c .if1 .left))
+
+returns-2 : tie.Need-returns-2 Inv-loop μ-loop
+unfolding conditionWaitersFit
+returns-2 c = each-end _ _ _ (c .loop-test .left) (c .before .loop .inv)
+
+pub condition-waiters-fit-spec : {M : Type 1} → statement M
+condition-waiters-fit-spec =
+    tie.close
+    (tie.spec
+    Inv-loop
+    μ-loop
+    loop-holds
+    sub-t
+    cast-i
+    mul-row
+    array-copy-out-row
+    condition-waiter-fits-requires
+    returns
+    loop-less
+    loop-again
+    returns-2)

@@ -1,0 +1,74 @@
+-- `mutexes_fit` meets its contract. The invariant: the mutexes left decide as all do. The measure is what is left. Assumes nothing.
+use borrow.Author.Needs.{needs}
+use mathlib.Core.Path.{_≡_, refl, sym, _∙_}
+use borrow.Author.Tests.{not-true, not-false}
+use Rattle.rules.specs.Sound.{each}
+use Rattle.sound_objects.specs.Objects.{mutexTest, mutexesFit}
+use Rattle.sound_standing.proofs.Loops.{each-on, each-out, each-end}
+use Rattle.sound_objects.proofs.mutexes_fit.Statement.{statement}
+use Rattle.sound_objects.proofs.mutexes_fit.Tie as tie
+
+abbrev Inv-loop : tie.InvT-loop
+Inv-loop rows priorities known mutexes m₀ m = each m (mutexTest mutexes rows priorities known) ≡ mutexesFit mutexes rows priorities known
+
+abbrev μ-loop : tie.MeasureT-loop
+μ-loop rows priorities known mutexes m₀ m = m
+
+loop-holds : tie.Need-loop-holds Inv-loop μ-loop
+unfolding mutexesFit
+loop-holds c = refl
+
+sub-m : tie.Need-sub-m Inv-loop μ-loop
+sub-m c = search needs
+
+cast-i : tie.Need-cast-i Inv-loop μ-loop
+cast-i c = search needs
+
+mul-row : tie.Need-mul-row Inv-loop μ-loop
+mul-row c = search needs
+
+array-copy-out-row : tie.Need-array-copy-out-row Inv-loop μ-loop
+array-copy-out-row c = search needs
+
+mutex-fits-requires : tie.Need-mutex-fits-requires Inv-loop μ-loop
+mutex-fits-requires c κs = search needs
+
+returns : tie.Need-returns Inv-loop μ-loop
+unfolding mutexesFit
+returns c =
+    let at-mutex-fits = c .before in
+    let at-loop-test = at-mutex-fits .before .before in
+    let at-loop = at-loop-test .before in
+    each-out _ _ _ (at-loop-test .loop-test .taken) (at-loop .loop .inv) (sym (at-mutex-fits .mutex-fits .ensures) ∙ not-true _ (c .if1 .taken))
+
+loop-less : tie.Need-loop-less Inv-loop μ-loop
+loop-less c = search needs
+
+loop-again : tie.Need-loop-again Inv-loop μ-loop
+unfolding mutexesFit
+loop-again c =
+    let at-mutex-fits = c .before in
+    let at-loop-test = at-mutex-fits .before .before in
+    let at-loop = at-loop-test .before in
+    each-on _ _ _ (at-loop-test .loop-test .taken) (at-loop .loop .inv) (sym (at-mutex-fits .mutex-fits .ensures) ∙ not-false _ (c .if1 .left))
+
+returns-2 : tie.Need-returns-2 Inv-loop μ-loop
+unfolding mutexesFit
+returns-2 c = each-end _ _ _ (c .loop-test .left) (c .before .loop .inv)
+
+pub mutexes-fit-spec : {M : Type 1} → statement M
+mutexes-fit-spec =
+    tie.close
+    (tie.spec
+    Inv-loop
+    μ-loop
+    loop-holds
+    sub-m
+    cast-i
+    mul-row
+    array-copy-out-row
+    mutex-fits-requires
+    returns
+    loop-less
+    loop-again
+    returns-2)

@@ -1,0 +1,1 @@
+"""What holds the documents, and the wrong programs, against the tree."""

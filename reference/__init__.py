@@ -1,0 +1,1 @@
+"""The second program: a plain book of the bench kernel, and its tests."""

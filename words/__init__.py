@@ -1,0 +1,1 @@
+"""The words of ./tehuamozo, what they stand on, and their tests."""
