@@ -32,7 +32,7 @@ from typing import Dict, Iterator, List, Tuple
 
 from docs.edits import Wrong, edits, name_of, wrongs
 from docs.shapes import Function, one_result
-from docs.tree import CRATES, TOP, crates
+from docs.tree import CRATES, TOP, count, crates
 
 PAGE = TOP / "docs" / "PROMISES.md"
 HEADING = "| Function | Promise | One result by | Rules out |"
@@ -353,17 +353,11 @@ def check() -> int:
     """Write the table, check all and print the count; the exit status."""
     text, functions = PAGE.read_text(encoding="utf-8"), table()
     print("\n".join(functions))
-    results: Dict[str, bool] = dict(
+    return count(dict(
         check_blocks(text) + check_names(text) + check_wrong_definitions(text)
         + check_requests(text) + check_edits() + check_wheel()
         + check_conditions() + check_table(functions)
-    )
-    for name, good in results.items():
-        if not good:
-            print(f"not there: {name}")
-    failed = sum(not good for good in results.values())
-    print(f"{len(results) - failed} passed, {failed} failed")
-    return 0 if failed == 0 and results else 1
+    ))
 
 
 def main() -> int:

@@ -18,7 +18,7 @@ import re
 import sys
 from typing import Dict, Iterator, List, Set, Tuple
 
-from docs.tree import CRATES, listed
+from docs.tree import CRATES, count, listed
 
 # A type by its crate and its name.
 Type = Tuple[str, str]
@@ -111,13 +111,7 @@ def main() -> int:
         prog="python3 -m docs.needs", description=__doc__,
         formatter_class=argparse.RawDescriptionHelpFormatter,
     ).parse_args()
-    results = check()
-    for name, good in results.items():
-        if not good:
-            print(f"not so: {name}")
-    failed = sum(not good for good in results.values())
-    print(f"{len(results) - failed} passed, {failed} failed")
-    return 0 if failed == 0 and results else 1
+    return count(check())
 
 
 if __name__ == "__main__":

@@ -9,6 +9,7 @@ ran and M is 0.
 from __future__ import annotations
 
 import contextlib
+import io
 import sys
 import tempfile
 from pathlib import Path
@@ -185,6 +186,19 @@ def knows_needs() -> bool:
     }
 
 
+def counts() -> bool:
+    """A check ends with 0 where all is so, and not where something is not, or
+    where nothing was looked at."""
+    shown = io.StringIO()
+    with contextlib.redirect_stdout(shown):
+        ends = [tree.count({"a": True}), tree.count({"a": True, "b": False}),
+                tree.count({})]
+    return ends == [0, 1, 1] and shown.getvalue() == (
+        "1 passed, 0 failed\nnot so: b\n1 passed, 1 failed\n"
+        "0 passed, 0 failed\n"
+    )
+
+
 TRIALS: Sequence[Tuple[str, Callable[[], bool]]] = (
     ("the reading list follows what is said", follows_what_is_said),
     ("the crates of a tree", knows_the_crates),
@@ -195,6 +209,7 @@ TRIALS: Sequence[Tuple[str, Callable[[], bool]]] = (
     ("functions that ask for nothing", asks_for_nothing),
     ("names that are not followed", refuses_other_forms),
     ("the crates that a crate needs", knows_needs),
+    ("how a check ends", counts),
     ("the table of functions", holds_the_table),
 )
 

@@ -70,10 +70,11 @@ def library_of(name: str) -> Product:
     return Product(name, ("rt", "staticlib", name), file, (file,))
 
 
-def dependencies() -> Dict[str, List[str]]:
-    """What each crate is listed with in crates.txt."""
+def listed_in(top: Path) -> Dict[str, List[str]]:
+    """The crates of a tree's crates.txt, libraries and programs, each with
+    those that it is listed with."""
     found: Dict[str, List[str]] = {}
-    for line in (TOP / "crates.txt").read_text("utf-8").splitlines():
+    for line in (top / "crates.txt").read_text("utf-8").splitlines():
         name, colon, rest = line.partition("#")[0].partition(":")
         if colon:
             found[name.strip()] = rest.split()
@@ -111,7 +112,7 @@ def digest(data: bytes) -> str:
 
 def sources(crate: str) -> str:
     """One number for all that a crate is built from."""
-    listed = dependencies()
+    listed = listed_in(TOP)
     sums: List[str] = []
     for name in reached(crate, listed):
         sums.append(f"{name}: {' '.join(listed.get(name, []))}")
