@@ -1,5 +1,6 @@
 /* measure SETUP LOOP REPEATS: nanoseconds for each call of a mix, whose rows are in two binary files.
-   With PROVED_KERNEL the calls are those of the proved kernel's static library, in place, or by value with BY_VALUE too; else of the plain one. */
+   With PROVED_KERNEL the calls are those of the proved kernel's static library: in place, with BY_VALUE too by value, with BY_CALLS too each by the
+   public call, which tests first that the kernel is sound. Else they are of the plain one. */
 #define _POSIX_C_SOURCE 200809L
 
 #include "kernel.h"
@@ -48,8 +49,10 @@ static void report(double took, double calls, uint64_t checksum)
 
 #ifdef PROVED_KERNEL
 
-#ifdef BY_VALUE
+#if defined BY_VALUE
 #define PROVED run_rows_by_value
+#elif defined BY_CALLS
+#define PROVED run_rows_by_calls
 #else
 #define PROVED run_rows
 #endif

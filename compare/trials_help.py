@@ -40,7 +40,7 @@ STEPS = (
     ("whole words", "need mypy mypy"),
     ("whole words", "need pycodestyle pycodestyle"),
     ("whole proofs", "rt fmt --check"),
-    ("whole words", "shellcheck tehuamozo .ci/run bench/build"),
+    ("whole words", "shellcheck tehuamozo .ci/run bench/build bench/native"),
     ("whole words", "mypy --strict --cache-dir $room/mypy words compare "
      "reference bench docs examples/wrap/make_start.py"),
     ("whole words", "pycodestyle words compare reference bench docs "

@@ -45,7 +45,7 @@ WHEEL = re.compile(
 )
 # Names of its inside: what stands behind the promise's names, and the fields
 # of its structs.
-INSIDE = re.compile(r"\bOpened\b|\.(spokes|turns|spoke|ids)\b")
+INSIDE = re.compile(r"\bOpened\b|\.(words|ids)(?![-\w])")
 OUTSIDE = ("program_files", "program_records")
 OPEN = "open: it speaks to the system, which decides"
 WRONGS: List[Wrong] = list(wrongs())

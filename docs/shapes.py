@@ -29,12 +29,14 @@ RELATIONS: Mapping[str, Tuple[Tuple[int, ...], str]] = {
     "Ends": ((2, 3), "ends-once"),
 }
 # Types that have values, so that what holds for every value of one holds.
-INHABITED = ("Clock", "Counts", "State")
+INHABITED = ("Timing", "Counts", "State")
 # An array that was lent, or is returned, read as what it stands for, and the
 # theorem that one array does so.
 READINGS: Mapping[str, str] = {
     "schedulerIn": "bytes-once", "signalledIn": "signalled-once",
-    "steppedIn": "stepped-once",
+    "steppedIn": "stepped-once", "steppedOn": "arrays-once",
+    "clockIn": "clock-once", "wheelIn": "words-once",
+    "tickedWith": "turned-once",
 }
 # A name for several values as one, which determines each of them.
 TOGETHER = ("at",)
@@ -139,6 +141,15 @@ def result_named(text: str, function: Function) -> Optional[str]:
     return lent if lent in function.lent else None
 
 
+def result_read(text: str, function: Function) -> Optional[str]:
+    """The one result that a text is, or that it reads as what it stands
+    for."""
+    words = arguments(text)
+    if len(words) == 2 and words[0] in READINGS:
+        return result_named(words[1], function)
+    return result_named(text, function)
+
+
 def arguments(text: str) -> List[str]:
     """A name and its arguments."""
     return [part for part in split_words(bare(text)) if part]
@@ -164,7 +175,7 @@ def by_equation(
     if whole is not None:
         return Determined(frozenset([whole]), "equation-once")
     words = arguments(left)
-    named = [result_named(word, function) for word in words[1:]]
+    named = [result_read(word, function) for word in words[1:]]
     results = frozenset(name for name in named if name is not None)
     if words and words[0] in READINGS and results:
         return Determined(results, READINGS[words[0]])
@@ -194,9 +205,9 @@ def by_relation(
 def determined(fact: str, function: Function) -> Optional[Determined]:
     """What one fact determines."""
     sides = split_top(fact, "↔")
-    if len(sides) == 2 and bare(sides[0]) == "r ≡ true":
-        if not mentions(sides[1], function):
-            return Determined(frozenset([RETURNED]), "exactly-once")
+    told = re.fullmatch(r"(r(?: \.\w+)*) ≡ true", bare(sides[0]))
+    if len(sides) == 2 and told and not mentions(sides[1], function):
+        return Determined(frozenset([told.group(1)]), "exactly-once")
     sides = split_top(fact, "≡")
     if len(sides) == 2:
         return by_equation(sides[0], sides[1], function)

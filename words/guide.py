@@ -51,7 +51,9 @@ USES: Dict[str, Use] = {
         "steps and does none",
     )),
     "bench": Use("", (
-        "measure the kernel and the run program against plain C",
+        "measure the kernel and the run program against plain C, a single",
+        "public call, and whether calls cost more among more threads and",
+        "timers; off x86-64 also on the processor, beside the emulator",
     )),
     "help": Use("[calls|answers|WORD]", (
         "this text; the calls with their fields; the answer numbers and what",

@@ -3,6 +3,7 @@
     kit_folder()          the kit's folder, if there is one
     machines_of(kit)      what a kit has for each machine
     own_folder()          what the kit has for this machine
+    is_emulated()         whether proved programs are emulated here
     command_of(program)   what starts a proved program
     loaded(program)       the same, always with the kit's own C library
 
@@ -47,12 +48,16 @@ def own_folder() -> Path:
     return machines_of(kit) / platform.machine()
 
 
+def is_emulated() -> bool:
+    """Whether programs for x86-64 run under the emulator on this machine."""
+    return platform.machine() != X86_64
+
+
 def loaded(program: str) -> List[str]:
     """What starts a program for x86-64 with the kit's loader and C library,
     under its emulator where this machine is another."""
     tools = own_folder() / "toolchain"
-    is_emulated = platform.machine() != X86_64
-    emulator = [str(tools / "bin" / EMULATOR)] if is_emulated else []
+    emulator = [str(tools / "bin" / EMULATOR)] if is_emulated() else []
     library = tools / "lib"
     loader = [str(library / LOADER), "--library-path", str(library)]
     return [*emulator, *loader, program]
@@ -60,4 +65,4 @@ def loaded(program: str) -> List[str]:
 
 def command_of(program: str) -> List[str]:
     """What starts a proved program: itself, where the machine can."""
-    return [program] if platform.machine() == X86_64 else loaded(program)
+    return loaded(program) if is_emulated() else [program]

@@ -1,5 +1,5 @@
-"""Tests of the door's parts: what a run's text and record are held to, and
-what files are made of outputs.
+"""Tests of the door's parts: what a run's text and record are held to, what
+files are made of outputs, and what the benchmark makes of its times.
 
     python3 -m words.test_door
 
@@ -15,14 +15,21 @@ import contextlib
 import os
 import platform
 import re
+import shutil
 import subprocess
 import sys
 import tempfile
 import unittest
+from fractions import Fraction
 from pathlib import Path
-from typing import IO, Iterator, List
+from typing import (
+    IO, Callable, Dict, Iterator, List, Sequence, Tuple,
+)
 from unittest import mock
 
+from bench import measuring, ratio
+from bench.measuring import Place, Run
+from bench.ratio import Budget, Column, Table
 from words import kit, running, sources
 from words.borrowed import Answer
 from words.built import TOP
@@ -44,6 +51,33 @@ BOOT = bytes.fromhex(
 # The header says as many bytes as there are: 24, 4 for each of 32 threads,
 # 16 mutexes and 16 condition variables, and 8 for each of 32 timers.
 LONGEST = 536
+# A kit that pretends: a library is one module in the crate's name, which clang
+# copies. Below the crate `unproved` stands one that is not proved, and the
+# module of `broken` does not compile.
+KIT = {
+    "bin/rt": """
+home=${RATTLE_HOME:-$(dirname "$(dirname "$0")")}
+own=$home/on/$(uname -m)
+case $1 in
+doc) echo "$home/docs/START-HERE.md" ;;
+staticlib)
+    rm -f target/stamp/*
+    echo "$2" >target/module.bc
+    [ "$2" != unproved ] || "$own/bin/rattle" build below || exit
+    "$own/bin/rattle" build --crate-type staticlib "$own/toolchain"
+    ;;
+esac
+""",
+    f"on/{platform.machine()}/bin/rattle": """
+"$4/bin/clang" -c target/module.bc
+""",
+    f"on/{platform.machine()}/toolchain/bin/clang": """
+[ $# -gt 2 ] || exit 0
+for word; do case $word in *.bc) module=$word ;; esac; last=$word; done
+! grep broken "$module" || exit
+{ echo "$1" && cat "$module"; } >"$last"
+""",
+}
 # A word that lasts, and an object of it in whose end the signal comes, which
 # a job in the background would ignore.
 LOST = """
@@ -474,7 +508,7 @@ class Places(unittest.TestCase):
         """The files of our Python and shell that have these words, tests and
         trials apart."""
         files = [TOP / name for name in ("tehuamozo", ".ci/run")]
-        files.append(TOP / "bench" / "build")
+        files += [TOP / "bench" / name for name in ("build", "native")]
         for folder in ("words", "compare", "reference", "bench", "docs"):
             files += (TOP / folder).glob("*.py")
         return sorted(
@@ -492,6 +526,227 @@ class Places(unittest.TestCase):
         self.assertEqual(self.files_with("sys.path"), ["words/__main__.py"])
         for words in ("PYTHONPATH", "MYPYPATH", "importlib"):
             self.assertEqual(self.files_with(words), [])
+
+
+class Native(Folder):
+    """A library compiled for this machine's own processor, with a kit and a
+    tree that pretend."""
+
+    def setUp(self) -> None:
+        """Make the kit, and the tree with what is proved in it."""
+        super().setUp()
+        for name, text in KIT.items():
+            self.put(f"kit/{name}", f"#!/bin/sh{text}")
+        own = TOP / "bench" / "native"
+        self.put("tree/bench/native", own.read_text("utf-8"))
+        for crate in ("whole", "unproved", "broken"):
+            self.put(f"tree/crates/{crate}/src/lib.rt", "")
+        for name in ("crates.txt", "target/stamp/below", "target/rlib/below"):
+            self.put(f"tree/{name}", "")
+        self.put("rooms/mine", "")
+
+    def put(self, name: str, text: str) -> None:
+        """A file of the folder, which can be run, in folders of its own."""
+        file = self.folder / name
+        file.parent.mkdir(parents=True, exist_ok=True)
+        file.write_text(text, "utf-8")
+        file.chmod(0o755)
+
+    def native(self, *words: str, path: str = "") -> Tuple[int, List[str]]:
+        """Its status, and what it says, with the kit in the path unless that
+        is given. It leaves nothing behind."""
+        with_kit = f"{self.folder / 'kit' / 'bin'}:{os.environ['PATH']}"
+        rooms = str(self.folder / "rooms")
+        done = subprocess.run(
+            ["/bin/sh", "tree/bench/native", *words], capture_output=True,
+            env={"PATH": path or with_kit, "TMPDIR": rooms}, text=True,
+            check=False,
+        )
+        self.assertEqual(done.stdout, "")
+        self.assertEqual(os.listdir("rooms"), ["mine"])
+        return done.returncode, done.stderr.splitlines()
+
+    def test_made(self) -> None:
+        """The module that clang was handed, compiled for this machine."""
+        self.assertEqual(self.native("whole", "out.o"), (0, []))
+        self.assertEqual(Path("out.o").read_text("utf-8").splitlines(), [
+            f"--target={platform.machine()}-unknown-linux-gnu", "whole",
+        ])
+        self.assertEqual(os.listdir("tree/target/stamp"), ["below"])
+        self.assertEqual(sorted(os.listdir("tree/target")), ["rlib", "stamp"])
+
+    def test_use(self) -> None:
+        """Wrong use is said."""
+        for words in ((), ("whole",), ("whole", "out.o", "more")):
+            self.assertEqual(
+                self.native(*words), (2, ["usage: native CRATE OUT.o"])
+            )
+
+    def test_missing(self) -> None:
+        """What is missing is named, and nothing is made."""
+        for words, said in (
+            (("none", "out.o"), "native: there is no crate none"),
+            (("whole", "no/out.o"), "native: no/out.o could not be written"),
+        ):
+            status, lines = self.native(*words)
+            self.assertEqual((status, lines[-1]), (1, said))
+        shutil.rmtree("tree/target/stamp")
+        status, lines = self.native("whole", "out.o")
+        self.assertEqual(status, 1)
+        self.assertRegex(lines[-1], "^native: nothing is proved in .*/tree$")
+        Path(f"kit/on/{platform.machine()}/toolchain/bin/clang").unlink()
+        status, lines = self.native("whole", "out.o")
+        self.assertEqual(status, 1)
+        self.assertRegex(lines[-1], "^native: the kit has no compiler for ")
+        self.assertNotIn("out.o", self.names())
+
+    def test_no_kit(self) -> None:
+        """Without a kit that is said."""
+        self.put("tools/none", "")
+        for name in ("dirname", "uname"):
+            Path("tools", name).symlink_to(shutil.which(name) or "")
+        self.assertEqual(
+            self.native("whole", "out.o", path=str(self.folder / "tools")),
+            (1, ["native: the Rattle kit's rt is not here"]),
+        )
+
+    def test_refused(self) -> None:
+        """What is not proved is not proved here either, and what does not
+        compile is shown."""
+        self.assertEqual(self.native("unproved", "out.o"), (1, [
+            "it is not proved, and native proves nothing",
+            "native: the library of unproved could not be built",
+        ]))
+        self.assertEqual(os.listdir("tree/target/stamp"), ["below"])
+        self.assertEqual(self.native("broken", "out.o"), (1, [
+            "broken",
+            "native: the module of broken could not be compiled for "
+            f"{platform.machine()}",
+        ]))
+        self.assertNotIn("out.o", self.names())
+
+
+class Ratios(Folder):
+    """What the benchmark prints of its measurements."""
+
+    TABLE = Table("mix", 5, (
+        Column("ns", 6, ".1f", "a"), Column("ratio", 6, ".2f", "a", "b"),
+    ))
+
+    def best(self, **answers: int) -> List[Dict[str, float]]:
+        """The best of two rounds of programs, which answer so and take 9
+        nanoseconds, then 8, and so on."""
+        took = iter(range(9, 0, -1))
+
+        def measured(
+            command: List[str], mix: Path, often: int
+        ) -> Tuple[float, Fraction]:
+            return float(next(took)), Fraction(answers[command[0]])
+
+        self.addCleanup(mock.patch.stopall)
+        mock.patch.object(measuring, "measured", measured).start()
+        mock.patch.dict(measuring.CALLS, {name: 3 for name in answers}).start()
+        Path("mix.loop.bin").write_bytes(bytes(16))
+        place = Place("here", {name: [name] for name in answers})
+        runs = [Run(name.upper(), name, "mix") for name in answers]
+        return measuring.best([place], runs, self.folder, 2)
+
+    def test_best(self) -> None:
+        """All in turn, and the least time of each counts."""
+        self.assertEqual(self.best(one=5, other=5), [{"ONE": 7, "OTHER": 6}])
+
+    def test_answers(self) -> None:
+        """Programs that answer a mix differently have no ratio."""
+        with self.assertRaisesRegex(Trouble, "^mix: the kernels answer dif"):
+            self.best(one=5, other=6)
+
+    def test_repeats(self) -> None:
+        """As many loops as fit into so many rows, and one at least."""
+        Path("mix.loop.bin").write_bytes(bytes(3 * 8))
+        for rows, often in ((0, 1), (2, 1), (6, 2), (8, 2), (9, 3)):
+            mix = self.folder / "mix"
+            self.assertEqual(measuring.repeats(mix, rows), often)
+
+    def test_one_place(self) -> None:
+        """A table of one place."""
+        places = [Place("here", {})]
+        self.assertEqual(self.TABLE.heads(places), ["mix       ns  ratio"])
+        line = self.TABLE.line("one", [{"a": 3.0, "b": 2.0}])
+        self.assertEqual(line, "one      3.0   1.50")
+
+    def test_two_places(self) -> None:
+        """The places stand above, and their columns beside each other."""
+        places = [Place("here", {}), Place("there", {})]
+        self.assertEqual(self.TABLE.heads(places), [
+            "               here         there",
+            "mix       ns  ratio     ns  ratio",
+        ])
+        times = [{"a": 3.0, "b": 2.0}, {"a": 1.0, "b": 4.0}]
+        self.assertEqual(
+            self.TABLE.line("one", times), "one      3.0   1.50    1.0   0.25"
+        )
+
+    def test_budgets(self) -> None:
+        """What is just as much as it may be meets its budget."""
+        for figure, line in (
+            (2.5, "calls: 2.50, at most 3: met"),
+            (3.0, "calls: 3.00, at most 3: met"),
+            (3.01, "calls: 3.01, at most 3: not met"),
+        ):
+            self.assertEqual(Budget("calls", 3.0, figure).line(), line)
+
+    def budgets(
+        self, table: Callable[[ratio.Bench], List[Budget]]
+    ) -> List[Tuple[str, float]]:
+        """The budgets of a table where its programs take 2, 3, 4, .. under
+        the emulator and 4, 5, 6, .. on the processor."""
+        def best(
+            places: Sequence[Place], runs: Sequence[Run], *rest: object
+        ) -> List[Dict[str, float]]:
+            keys = [run.key for run in runs]
+            return [
+                {key: first + at for at, key in enumerate(keys)}
+                for _, first in zip(places, (2.0, 4.0))
+            ]
+
+        places = [Place(ratio.EMULATOR, {}), Place(ratio.PROCESSOR, {})]
+        bench = ratio.Bench(places, self.folder, 1)
+        with mock.patch.multiple(ratio, best=best, say=mock.DEFAULT):
+            return [(one.what, one.figure) for one in table(bench)]
+
+    def test_budget_of_the_loop(self) -> None:
+        """The worst mix, in place over plain C, on the processor."""
+        self.assertEqual(self.budgets(ratio.against_c), [
+            ("the loop, times plain C, worst mix rotate", 5 / 4),
+        ])
+
+    def test_budget_of_a_call(self) -> None:
+        """The public call over the loop, of a full kernel."""
+        self.assertEqual(self.budgets(ratio.one_call), [
+            ("a public call of a full kernel, times the loop", 6 / 4),
+        ])
+
+    def test_budget_of_growth(self) -> None:
+        """The loop at 32 over the loop at 4."""
+        self.assertEqual(self.budgets(ratio.growth), [
+            ("growth, few, full", 5 / 4),
+            ("growth, rotate, rotate-full", 5 / 4),
+        ])
+
+    def test_native(self) -> None:
+        """Nothing is compiled anew where programs are the processor's own;
+        elsewhere bench/native is asked, under the lock of the words."""
+        native = str(TOP / "bench" / "native")
+        made = str(self.folder / "run_tally.o")
+        for emulated in (False, True):
+            objects = [made] if emulated else []
+            with mock.patch.multiple(
+                ratio, is_emulated=lambda: emulated, locked=mock.DEFAULT,
+                run=mock.DEFAULT,
+            ) as found:
+                self.assertEqual(ratio.native_object(self.folder), objects)
+            self.assertEqual(found["locked"].called, emulated)
+        found["run"].assert_called_once_with([native, "run_tally", made])
 
 
 class Words(unittest.TestCase):

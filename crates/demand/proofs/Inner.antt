@@ -9,8 +9,8 @@ use Rattle.calls.specs.Rows.{decoded}
 use Rattle.rules.specs.State.{State}
 use Rattle.rules.specs.Sound.{sound}
 use Rattle.value_engine.specs.Stands.{engineOf}
-use Rattle.run_lines.specs.Inner.{innerAnswers, innerFinal}
-use Rattle.run_lines.proofs.Inner.{inner-rows-step}
+use Rattle.run_rows.specs.Many.{innerAnswers, innerFinal}
+use Rattle.run_rows.proofs.Inner.{inner-rows-step}
 use Rattle.kernel.specs.declared.Kernel.{Kernel}
 use Rattle.kernel.specs.Kernels.{kernelOf}
 use Rattle.demand.specs.Demand.{Repeats}

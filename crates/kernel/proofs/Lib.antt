@@ -1,2 +1,4 @@
+pub mod Tests
+pub mod Deciding
 pub mod Sound
 pub mod Promised

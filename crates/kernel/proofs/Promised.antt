@@ -2,24 +2,26 @@
 -- Assumes nothing.
 use mathlib.Core.Path.{_≡_, refl, sym, ap, _∙_}
 use mathlib.Core.Logic.{_⊎_, inl, inr, _↔_}
-use mathlib.Core.Bool.{Bool, true, false, true≢false}
-use Rattle.laws.proofs.Bools.{by-cases}
+use mathlib.Core.Bool.{Bool, true, false, _&&_, true≢false}
+use Rattle.laws.proofs.Bools.{by-cases, and-left, and-right, and-both}
 use Rattle.calls.specs.declared.Decoded.{Decoded}
 use Rattle.calls.specs.Answers.{numberOf}
 use Rattle.rules.specs.State.{State}
 use Rattle.rules.specs.Sound.{sound}
 use Rattle.rules.specs.Step.{stepDecoded}
+use Rattle.value_engine.specs.declared.Engine.{Engine}
 use Rattle.value_engine.specs.declared.Stepped as engine
 use Rattle.value_engine.specs.Stands as stands
 use Rattle.value_engine.specs.Stands.{engineOf}
-use Rattle.sound_alike.specs.Tests.{sameEngine}
-use Rattle.sound_alike.proofs.Deciding.{engines-exactly}
+use Rattle.sound_engine.specs.Rebuilding.{pagePasses}
 use Rattle.page_describing.specs.Describing.{describeModel}
 use Rattle.page_building.specs.Building.{buildModel}
 use Rattle.kernel.specs.declared.Kernel.{Kernel}
 use Rattle.kernel.specs.declared.Stepped.{Stepped}
 use Rattle.kernel.specs.Kernels.{SoundKernel, steppedOf, refusal, unsoundVerdict, Steps}
-use Rattle.kernel.proofs.Sound.{pagePasses, page-fails, engine-decides, state-sound, sound-state, one-state}
+use Rattle.kernel.proofs.Tests.{sameEngine}
+use Rattle.kernel.proofs.Deciding.{engines-exactly}
+use Rattle.kernel.proofs.Sound.{follows-decides, state-sound, sound-state, one-state}
 
 -- ---- the two ways of a call
 
@@ -43,10 +45,22 @@ module _ (x : Kernel) {b : Bool} (tested : (b ≡ true) ↔ SoundKernel x) where
 
 -- a kernel is sound or it is not
 pub sound-or-not : (x : Kernel) → SoundKernel x ⊎ (SoundKernel x → ⊥)
-sound-or-not x = by-cases (pagePasses (x .engine))
-    (λ e. let d = engine-decides x (sameEngine (x .engine) (buildModel (describeModel (x .engine)))) e (engines-exactly (x .engine) (buildModel (describeModel (x .engine)))) in
-    by-cases (sameEngine (x .engine) (buildModel (describeModel (x .engine)))) (λ t. inl (d .0 t)) (λ f. inr (λ w. true≢false (sym (d .1 w) ∙ f))))
-    (λ e. inr (λ w. true≢false (sym (page-fails x e .1 w))))
+sound-or-not x = by-cases test (λ t. inl (sound .0 t)) (λ f. inr (λ w. true≢false (sym (sound .1 w) ∙ f)))
+  where
+    own : Engine
+    own = buildModel (describeModel (x .engine))
+
+    test : Bool
+    test = pagePasses (x .engine) && sameEngine (x .engine) own
+
+    same : (sameEngine (x .engine) own ≡ true) ↔ (x .engine ≡ own)
+    same = engines-exactly (x .engine) own
+
+    sound : (test ≡ true) ↔ SoundKernel x
+    sound = follows-decides x test (
+      λ t. (and-left (pagePasses (x .engine)) (sameEngine (x .engine) own) t, same .0 (and-right (pagePasses (x .engine)) (sameEngine (x .engine) own) t)),
+      λ f. and-both (pagePasses (x .engine)) (sameEngine (x .engine) own) (f .0) (same .1 (f .1)),
+    )
 
 -- any two results that the promise of a step allows are equal
 pub steps-once : (x : Kernel) (row : Decoded) (r q : Stepped) → Steps x row r → Steps x row q → r ≡ q

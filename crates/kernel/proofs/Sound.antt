@@ -4,7 +4,7 @@
 use Prim.Native.Nat.{_≤_}
 use mathlib.Core.Path.{_≡_, sym, ap, _∙_, subst}
 use mathlib.Core.Logic.{_↔_}
-use mathlib.Core.Bool.{Bool, true, false, _&&_, true≢false}
+use mathlib.Core.Bool.{Bool, true}
 use lib.ListN.{length-map}
 use Rattle.laws.proofs.Bools.{and-left, and-right, and-both}
 use Rattle.rules.specs.State.{State}
@@ -12,13 +12,13 @@ use Rattle.rules.specs.Sound.{sound}
 use Rattle.rules.specs.Page.{Page, threadOf, timerOf, rowsOf, describedBy, pageFormed, pageSound, pageOf}
 use Rattle.rules_soundness.proofs.Tested.{sound-facts}
 use Rattle.rules_pages.proofs.Pages.{page-of-sound, described-is-sound}
-use Rattle.value_engine.specs.declared.Engine.{Engine}
 use Rattle.value_engine.specs.Stands.{engineOf}
 use Rattle.page.specs.Says.{said, pageFor}
 use Rattle.page.proofs.Says.{Fits, said-for}
 use Rattle.page_describing.specs.Describing.{describeModel}
 use Rattle.page_describing.proofs.Means.{describe-means}
 use Rattle.page_building.specs.Building.{buildModel}
+use Rattle.sound_engine.specs.Rebuilding.{Follows}
 use Rattle.page_building.proofs.Means.{build-means}
 use Rattle.kernel.specs.declared.Kernel.{Kernel}
 use Rattle.kernel.specs.Kernels.{kernelOf, SoundKernel}
@@ -61,39 +61,27 @@ build-after-describe s e =
 
 -- ---- the test
 
--- the test of the page that describes an engine
-abbrev pub pagePasses : Engine → Bool
-pagePasses x = pageFormed (said (describeModel x)) && pageSound (said (describeModel x))
-
--- the page of a sound kernel passes, and says what the sound page says
+-- the page of a sound kernel says what the sound page says
 passes : (x : Kernel) → (w : SoundKernel x) → said (describeModel (x .engine)) ≡ w .0
 passes x w = ap (λ y. said (describeModel (y .engine))) (w .3) ∙ says-it (w .0) (w .1) (w .2)
 
--- where the page does not pass, the kernel is not sound
-pub page-fails : (x : Kernel) → pagePasses (x .engine) ≡ false → (false ≡ true) ↔ SoundKernel x
-page-fails x e = (
-  λ t. absurd (true≢false (sym t)),
-  λ w. absurd (true≢false (sym (and-both (pageFormed (said (describeModel (x .engine)))) (pageSound (said (describeModel (x .engine)))) (ap pageFormed (passes x w) ∙ w .1) (ap pageSound (passes x w) ∙ w .2)) ∙ e)),
-)
-
--- where it passes, the engine that is built from it decides
-pub engine-decides : (x : Kernel) (r : Bool) → pagePasses (x .engine) ≡ true → (r ≡ true) ↔ (x .engine ≡ buildModel (describeModel (x .engine))) → (r ≡ true) ↔ SoundKernel x
-engine-decides x r e same = (
-  λ t. (said (describeModel (x .engine)), formed, right, λ i. record { engine = (same .0 t ∙ made) i }),
-  λ w. same .1 (own w),
+-- a test of whether the engine follows from its page is one of whether the kernel is sound
+pub follows-decides : (x : Kernel) (r : Bool) → (r ≡ true) ↔ Follows (x .engine) → (r ≡ true) ↔ SoundKernel x
+follows-decides x r same = (
+  λ t. let f = same .0 t in
+      let formed = and-left (pageFormed own) (pageSound own) (f .0) in
+      let right = and-right (pageFormed own) (pageSound own) (f .0) in
+      (own, formed, right, λ i. record { engine = (f .1 ∙ made formed right) i }),
+  λ w. let formed = ap pageFormed (passes x w) ∙ w .1 in
+      let right = ap pageSound (passes x w) ∙ w .2 in
+      same .1 (and-both (pageFormed own) (pageSound own) formed right, ap (λ (y : Kernel). y .engine) (w .3) ∙ ap (λ q. engineOf (describedBy q)) (sym (passes x w)) ∙ sym (made formed right)),
 )
   where
-    formed : pageFormed (said (describeModel (x .engine))) ≡ true
-    formed = and-left (pageFormed (said (describeModel (x .engine)))) (pageSound (said (describeModel (x .engine)))) e
+    own : Page
+    own = said (describeModel (x .engine))
 
-    right : pageSound (said (describeModel (x .engine))) ≡ true
-    right = and-right (pageFormed (said (describeModel (x .engine)))) (pageSound (said (describeModel (x .engine)))) e
-
-    made : buildModel (describeModel (x .engine)) ≡ engineOf (describedBy (said (describeModel (x .engine))))
-    made = build-means (describeModel (x .engine)) formed right
-
-    own : SoundKernel x → x .engine ≡ buildModel (describeModel (x .engine))
-    own w = ap (λ y. y .engine) (w .3) ∙ ap (λ q. engineOf (describedBy q)) (sym (passes x w)) ∙ sym made
+    made : pageFormed own ≡ true → pageSound own ≡ true → buildModel (describeModel (x .engine)) ≡ engineOf (describedBy own)
+    made formed right = build-means (describeModel (x .engine)) formed right
 
 -- ---- states and pages
 

@@ -8,10 +8,7 @@ use calls::Row;
 use calls::decode;
 use limits::NONE;
 use limits::NOTHING;
-use page_building::build;
-use page_describing::describe;
-use sound_alike::same;
-use sound_page::sound;
+use sound_engine::judge;
 use units::Micros;
 use value_engine::Engine;
 ghost use mathlib.Core.Path.{_≡_};
@@ -49,13 +46,8 @@ impl Kernel {
         ensures { λ r. ⌜ (r ≡ true) ↔ SoundKernel self ⌝ }
     {
         let engine = self.engine;
-        let page = describe(engine);
-        let sound = sound(page);
-        if !sound {
-            return false;
-        }
-        let built = build(page);
-        same(engine, built)
+        let judged = judge(engine);
+        judged.sound
     }
 
     // A refusal of a kernel that is not sound: given and running are 255, and nothing changes.

@@ -3,3 +3,4 @@ pub mod Lists
 pub mod Bits
 pub mod Filling
 pub mod Same
+pub mod Copying

@@ -1,9 +1,9 @@
 -- When the test of two values decides, and one turn of a comparison of lists entry by entry.
 -- Assumes nothing.
 use Prim.Native.Nat.{ℕ, _+_, _<_, _≤_}
-use mathlib.Core.Path.{_≡_, refl, sym, ap₂, _∙_, subst}
+use mathlib.Core.Path.{_≡_, refl, sym, ap, ap₂, _∙_, subst}
 use mathlib.Core.Logic.{_↔_}
-use mathlib.Core.Bool.{Bool, true, false, _&&_, false≢true}
+use mathlib.Core.Bool.{Bool, true, _&&_, false≢true, and-true, and-assoc}
 use mathlib.Core.List.{List, [], _∷_}
 use native.Mathlib.Numerals.{add-one}
 use native.Mathlib.Omega.{arith}
@@ -11,7 +11,7 @@ use lib.ListN.{length, getD, drop, drop-of-length-le}
 use lib.Seq.{drop-cons}
 use lib.Dec.{eqb}
 use borrow.Author.Tests.{eqb-true}
-use Rattle.laws.specs.Same.{sameList, Comparing, Decides}
+use Rattle.laws.specs.Same.{sameList, Decides}
 use Rattle.laws.proofs.Bools.{self, and-left, and-right, and-both}
 
 -- ---- a test that decides
@@ -43,43 +43,33 @@ module _ {A : Type 0} {test : A → A → Bool} (d : Decides test) where
   pub lists : Decides (sameList test)
   lists = record { tells = lists-tell; holds = lists-hold }
 
--- two pairs, by their parts
-pub pairs : {A B : Type 0} {f : A → A → Bool} {g : B → B → Bool} → Decides f → Decides g → Decides (λ (x y : A × B). f (x .0) (y .0) && g (x .1) (y .1))
-pairs {A} {B} {f} {g} d e = record {
-  tells = λ x y h i. (d .tells (x .0) (y .0) (and-left (f (x .0) (y .0)) (g (x .1) (y .1)) h) i, e .tells (x .1) (y .1) (and-right (f (x .0) (y .0)) (g (x .1) (y .1)) h) i);
-  holds = λ x. and-both (f (x .0) (x .0)) (g (x .1) (x .1)) (d .holds (x .0)) (e .holds (x .1));
-}
-
 -- two values that have their parts and nothing else
 pub through : {A B : Type 0} {test : B → B → Bool} (parts : A → B) → ((x y : A) → parts x ≡ parts y → x ≡ y) → Decides test → Decides (λ x y. test (parts x) (parts y))
 through parts whole d = record { tells = λ x y e. whole x y (d .tells (parts x) (parts y) e); holds = λ x. d .holds (parts x) }
 
--- ---- two lists of n entries, entry by entry
+-- ---- two lists of n numbers, entry by entry, none left out
 
-module _ {A : Type 0} (test : A → A → Bool) (a b : List A) (n : ℕ) where
-  -- at first no entry is compared
-  pub compare-none : Comparing test a b n 0
-  compare-none = (omega arith, refl)
+-- the entries below i of two lists of n are compared, with this result, and the others decide the rest
+abbrev pub Looked : ℕ → List ℕ → List ℕ → Bool → ℕ → Type 0
+Looked n k z same i = (i ≤ n) × ((same && sameList eqb (drop i k) (drop i z)) ≡ sameList eqb k z)
 
-  module _ (i : ℕ) (long : length a ≡ n) (as-long : length b ≡ n) (c : Comparing test a b n i) where
-    -- entry i differs
-    pub compare-differs : (d : A) → i < n → test (getD a i d) (getD b i d) ≡ false → false ≡ sameList test a b
+module _ (n : ℕ) (k z : List ℕ) where
+  -- at first none is
+  pub look-none : Looked n k z true 0
+  look-none = (omega arith, refl)
+
+  module _ (same : Bool) (i : ℕ) (long : length k ≡ n) (as-long : length z ≡ n) (g : Looked n k z same i) where
+    -- entry i too
+    pub look-next : (r : Bool) → i < n → r ≡ (same && eqb (getD k i 0) (getD z i 0)) → Looked n k z r (i + 1)
     unfolding sameList
-    compare-differs d h e =
-        let z : sameList test (drop i a) (drop i b) ≡ false = rw (drop-cons a i d (omega arith), drop-cons b i d (omega arith), e) in
-        sym z ∙ c .1
+    look-next r h e =
+        let d : sameList eqb (drop i k) (drop i z) ≡ (eqb (getD k i 0) (getD z i 0) && sameList eqb (drop (i + 1) k) (drop (i + 1) z)) =
+        rw (add-one i, drop-cons k i 0 (omega arith), drop-cons z i 0 (omega arith)) in
+        (omega arith, rw e (and-assoc same _ _) ∙ ap (λ b. same && b) (sym d) ∙ g .1)
 
-    -- entry i is the same
-    pub compare-next : (d : A) → i < n → test (getD a i d) (getD b i d) ≡ true → Comparing test a b n (i + 1)
+    -- all are
+    pub look-all : n ≤ i → same ≡ sameList eqb k z
     unfolding sameList
-    compare-next d h e =
-        let z : sameList test (drop i a) (drop i b) ≡ sameList test (drop (i + 1) a) (drop (i + 1) b) =
-        rw (add-one i, drop-cons a i d (omega arith), drop-cons b i d (omega arith), e) in
-        (omega arith, sym z ∙ c .1)
-
-    -- all entries are compared
-    pub compare-all : n ≤ i → true ≡ sameList test a b
-    unfolding sameList
-    compare-all h =
-        let z : sameList test (drop i a) (drop i b) ≡ true = rw (drop-of-length-le a {i = i} (omega arith), drop-of-length-le b {i = i} (omega arith)) in
-        sym z ∙ c .1
+    look-all h =
+        let d : sameList eqb (drop i k) (drop i z) ≡ true = rw (drop-of-length-le k {i = i} (omega arith), drop-of-length-le z {i = i} (omega arith)) in
+        sym (and-true same) ∙ ap (λ b. same && b) (sym d) ∙ g .1

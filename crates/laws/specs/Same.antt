@@ -1,11 +1,9 @@
--- Whether two values are the same, as a test that computes: of lists, from one of their entries; when a test decides; and a comparison entry by
--- entry on its way. Its laws are in proofs/Same.
+-- Whether two values are the same, as a test that computes: of lists, from one of their entries; and when a test decides.
+-- Its laws are in proofs/Same.
 -- Assumes nothing.
-use Prim.Native.Nat.{ℕ, _≤_}
 use mathlib.Core.Path.{_≡_}
 use mathlib.Core.Bool.{Bool, true, false, _&&_}
 use mathlib.Core.List.{List, [], _∷_}
-use lib.ListN.{drop}
 
 module _ {A : Type 0} where
   -- two lists, by a test of their entries
@@ -19,7 +17,3 @@ module _ {A : Type 0} where
 pub record Decides {A : Type 0} (test : A → A → Bool) : Type 0 where
   pub tells : (x y : A) → test x y ≡ true → x ≡ y
   pub holds : (x : A) → test x x ≡ true
-
--- the entries below i are the same, so that the others decide
-abbrev pub Comparing : {A : Type 0} → (A → A → Bool) → List A → List A → ℕ → ℕ → Type 0
-Comparing test a b n i = (i ≤ n) × (sameList test (drop i a) (drop i b) ≡ sameList test a b)

@@ -5,3 +5,4 @@ pub mod Arrivals
 pub mod Blank
 pub mod Timers
 pub mod Means
+pub mod Parts

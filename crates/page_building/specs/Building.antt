@@ -18,6 +18,7 @@ use Rattle.wheel.specs.Promise.{wheelOf, startedIn}
 use Rattle.value_engine.specs.declared.Timer.{Timer}
 use Rattle.value_engine.specs.declared.Engine.{Engine}
 use Rattle.value_engine.specs.Engines.{stoppedRow}
+use Rattle.place_calls.specs.declared.Counts.{Counts}
 use Rattle.page.specs.declared.ThreadRow.{ThreadRow}
 use Rattle.page.specs.declared.TimerRow.{TimerRow}
 use Rattle.page.specs.declared.Page.{Page}
@@ -99,6 +100,10 @@ arrivedPlaces rows n zero x = x
 arrivedPlaces rows n (suc place) x = arrivedBelow rows place n (arrivedPlaces rows n place x)
 
 -- ---- the engine
+
+-- whether started, and the counts of a page
+abbrev pub pageCounts : Page → Counts
+pageCounts x = record { started = x .started; threads = x .threads; mutexes = x .mutexes; conditions = x .conditions; timercount = x .timers }
 
 -- the engine of a page
 unfoldable pub buildModel : Page → Engine

@@ -1,4 +1,4 @@
-// The engine that a page describes: its rows up to the counts, blank rows past them, each thread in its queue in the order of the places, and
+// The engine that a page describes, in lent arrays and by value: its rows up to the counts, blank rows past them, each thread in its queue in the order of the places, and
 // each timer on its spoke.
 use choice::larger;
 use choice::smaller;
@@ -19,6 +19,15 @@ use page::Page;
 use page::ThreadRow;
 use page::ThreadRows;
 use page::TimerRows;
+use place_calls::Counts;
+use place_clock::ClockWords;
+use place_clock::clock_of;
+use place_packing::packed;
+use place_queues::arrive;
+use place_queues::wait_for;
+use place_queues::wait_on;
+use place_step::engine_of;
+use place_tables::Cells;
 use queue::Links;
 use queue::Queues;
 use value_effects::FREE_MUTEX;
@@ -35,14 +44,17 @@ use value_tables::BLANK_THREAD;
 use value_tables::Thread;
 use value_tables::ThreadTable;
 use value_tables::Threads;
-use wheel::Wheel;
+use wheel::WheelWords;
+use wheel::empty_words;
+use wheel::start;
 ghost use Prim.Native.Nat.{min};
 ghost use mathlib.Core.Path.{_≡_};
 ghost use mathlib.Core.Bool.{true};
-ghost use Rattle.wheel.specs.Hung.{empty};
-ghost use Rattle.wheel.specs.Promise.{wheelOf};
+ghost use Rattle.wheel.specs.Promise.{wheelIn};
 ghost use Rattle.rules.specs.Page.{pageFormed, pageSound, describedBy};
 ghost use Rattle.value_engine.specs.Stands.{engineOf};
+ghost use Rattle.place_tables.specs.Cells.{schedulerIn};
+ghost use Rattle.place_clock.specs.Clock.{clockIn, clockOf};
 ghost use Rattle.page.specs.Says.{said};
 ghost use Rattle.page_building.specs.Building.{mutexRows, tieRows, runningRow, threadRows, timerRows, hungBelow, runnerIn, blankScheduler, arrivedOne, arrivedBelow, arrivedPlaces, buildModel};
 
@@ -132,21 +144,18 @@ fn timer_rows(rows: TimerRows, n: u8) -> TimerTable
     made
 }
 
-// The wheel at a tick count, with n timers hung for their ticks left; a stopped one has 0 left and hangs nowhere.
-fn hang(rows: TimerRows, n: u8, count: u32) -> Wheel
-    ensures { λ r. ⌜ r ≡ hungBelow rows (min n 32) (wheelOf (empty count)) ⌝ }
+// The first n timers hung on a wheel in place, for their ticks left; a stopped one has 0 left and hangs nowhere.
+fn hang(wheel: &mut WheelWords, rows: TimerRows, n: u8)
+    ensures { λ _. ⌜ wheelIn (now (wheel .exit)) ≡ hungBelow rows (min n 32) (wheelIn (now (wheel .entry))) ⌝ }
 {
-    let mut wheel = Wheel::empty(count);
     let most = smaller(n, TIMERS);
     let mut id: u8 = 0;
     while id < most {
         let i = id as usize;
         let row = rows[i];
-        let after = wheel.start(id, row.left);
-        wheel = after;
+        start(wheel, id, row.left);
         id += 1;
     }
-    wheel
 }
 
 // The first of n threads that runs, 255 for none.
@@ -197,57 +206,79 @@ fn blank_scheduler(page: Page) -> Scheduler
 }
 
 // Thread t arrives where its row says, if its place is this one; one that runs stays as it is.
-fn arrive_one(mut scheduler: Scheduler, row: ThreadRow, place: u8, t: u8) -> Scheduler
-    ensures { λ r. ⌜ r ≡ arrivedOne scheduler row place t ⌝ }
+fn arrive_one(cells: &mut Cells, row: ThreadRow, place: u8, t: u8)
+    ensures { λ _. ⌜ schedulerIn (now (cells .exit)) ≡ arrivedOne (schedulerIn (now (cells .entry))) row place t ⌝ }
 {
     if row.place != place {
-        return scheduler;
+        return;
     }
     if row.state == READY {
-        let threads = scheduler.threads;
-        let ready = threads.arrive(t);
-        scheduler.threads = ready;
-        return scheduler;
+        arrive(cells, t);
+        return;
     }
     if row.state == FOR_MUTEX {
-        return scheduler.wait_for(t, row.object);
+        wait_for(cells, t, row.object);
+        return;
     }
     if row.state == ON_CONDITION {
-        return scheduler.wait_on(t, row.object);
+        wait_on(cells, t, row.object);
     }
-    scheduler
 }
 
 // Those of n threads whose place is this one arrive, in order of id.
-fn arrive_place(scheduler: Scheduler, rows: ThreadRows, n: u8, place: u8) -> Scheduler
-    ensures { λ r. ⌜ r ≡ arrivedBelow rows place (min n 32) scheduler ⌝ }
+fn arrive_place(cells: &mut Cells, rows: ThreadRows, n: u8, place: u8)
+    ensures { λ _. ⌜ schedulerIn (now (cells .exit)) ≡ arrivedBelow rows place (min n 32) (schedulerIn (now (cells .entry))) ⌝ }
 {
-    let mut made = scheduler;
     let most = smaller(n, THREADS);
     let mut t: u8 = 0;
     while t < most {
         let i = t as usize;
         let row = rows[i];
-        let after = arrive_one(made, row, place, t);
-        made = after;
+        arrive_one(cells, row, place, t);
         t += 1;
     }
-    made
 }
 
 // All n threads arrive, those of place 0 first, then those of place 1, and so on.
-fn arrive_all(scheduler: Scheduler, rows: ThreadRows, n: u8) -> Scheduler
-    ensures { λ r. ⌜ r ≡ arrivedPlaces rows (min n 32) (min n 32) scheduler ⌝ }
+fn arrive_all(cells: &mut Cells, rows: ThreadRows, n: u8)
+    ensures { λ _. ⌜ schedulerIn (now (cells .exit)) ≡ arrivedPlaces rows (min n 32) (min n 32) (schedulerIn (now (cells .entry))) ⌝ }
 {
-    let mut made = scheduler;
     let most = smaller(n, THREADS);
     let mut place: u8 = 0;
     while place < most {
-        let after = arrive_place(made, rows, n, place);
-        made = after;
+        arrive_place(cells, rows, n, place);
         place += 1;
     }
-    made
+}
+
+// The scheduler of a page, in an array.
+pub fn built_cells(page: Page) -> Cells
+    ensures { λ r. ⌜ schedulerIn r ≡ buildModel page .scheduler ⌝ }
+{
+    let blank = blank_scheduler(page);
+    let threadrows = page.threadrows;
+    let mut cells = packed(blank);
+    arrive_all(&mut cells, threadrows, page.threads);
+    cells
+}
+
+// The timers and the tick count of a page, in an array.
+pub fn built_clock(page: Page) -> ClockWords
+    ensures { λ r. ⌜ clockIn r ≡ clockOf (buildModel page .timers) (buildModel page .count) ⌝ }
+{
+    let timerrows = page.timerrows;
+    let timers = timer_rows(timerrows, page.timers);
+    clock_of(timers, page.count)
+}
+
+// The wheel of a page, in an array.
+pub fn built_wheel(page: Page) -> WheelWords
+    ensures { λ r. ⌜ wheelIn r ≡ buildModel page .wheel ⌝ }
+{
+    let timerrows = page.timerrows;
+    let mut wheel = empty_words(page.count);
+    hang(&mut wheel, timerrows, page.timers);
+    wheel
 }
 
 // The engine of a page; of a sound page it is the engine of the state that the page describes.
@@ -255,21 +286,15 @@ pub fn build(page: Page) -> Engine
     ensures always { λ r. ⌜ r ≡ buildModel page ⌝ }
     ensures means { λ r. ⌜ (pageFormed (said page) ≡ true → pageSound (said page) ≡ true → r ≡ engineOf (describedBy (said page))) ⌝ }
 {
-    let blank = blank_scheduler(page);
-    let threadrows = page.threadrows;
-    let scheduler = arrive_all(blank, threadrows, page.threads);
-    let timerrows = page.timerrows;
-    let timers = timer_rows(timerrows, page.timers);
-    let wheel = hang(timerrows, page.timers, page.count);
-    Engine {
-        scheduler,
-        timers,
-        wheel,
+    let cells = built_cells(page);
+    let clock = built_clock(page);
+    let wheel = built_wheel(page);
+    let counts = Counts {
         started: page.started,
         threads: page.threads,
         mutexes: page.mutexes,
         conditions: page.conditions,
         timercount: page.timers,
-        count: page.count,
-    }
+    };
+    engine_of(&cells, &clock, &wheel, counts)
 }

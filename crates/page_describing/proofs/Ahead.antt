@@ -1,6 +1,6 @@
 -- One turn of the count of those ahead of a thread along the links, and its ends.
 -- Assumes nothing.
-use Prim.Native.Nat.{ℕ, suc, _+_, _-_, _<_, _≤_}
+use Prim.Native.Nat.{ℕ, suc, _+_, _-_, _%_, _<_, _≤_}
 use mathlib.Core.Path.{_≡_, sym, ap, _∙_}
 use mathlib.Core.List.{List, [], _∷_}
 use native.Mathlib.Omega.{arith}
@@ -9,6 +9,11 @@ use borrow.Author.Tests.{eq-eqb, ne-eqb}
 use Rattle.queue.specs.Linking.{walk}
 use Rattle.queue.proofs.Searches.{walk-none, walk-zero, walk-more}
 use Rattle.rules.specs.Page.{ahead}
+use Rattle.place_tables.specs.Cells.{schedulerIn}
+
+-- the links that stand in an array
+abbrev pub nextIn : List ℕ → List ℕ
+nextIn k = schedulerIn k .threads .links .next
 
 -- so many are counted, and those ahead on the rest of the walk are missing from the whole
 abbrev pub Counting : List ℕ → ℕ → ℕ → ℕ → ℕ → Type 0
@@ -43,10 +48,12 @@ module _ (next : List ℕ) (t whole count here : ℕ) (c : Counting next t whole
       let z : count + ahead t (walk next (32 - count) here) ≡ count = rw (goes h k, eq-eqb t here e) (omega arith) in
       sym z ∙ c .1
 
-  -- another is met
-  pub count-more : count < 32 → here < 32 → (t ≡ here → ⊥) → Counting next t whole (count + 1) (getD next here 0)
+  -- another is met, and h follows it
+  pub count-more : (h : ℕ) → count < 32 → here < 32 → (t ≡ here → ⊥) → h ≡ getD next (here % 32) 0 → Counting next t whole (count + 1) h
   unfolding ahead
-  count-more h k n =
+  count-more h few low n follows =
+      let in-table : here % 32 ≡ here = omega (arith, low) in
+      let is : h ≡ getD next here 0 = follows ∙ ap (λ i. getD next i 0) in-table in
       let z : count + ahead t (walk next (32 - count) here) ≡ count + 1 + ahead t (walk next (32 - (count + 1)) (getD next here 0)) =
-      rw (goes h k, ne-eqb t here n) (omega arith) in
-      (omega arith, sym z ∙ c .1)
+      rw (goes few low, ne-eqb t here n) (omega arith) in
+      (omega arith, ap (λ i. count + 1 + ahead t (walk next (32 - (count + 1)) i)) is ∙ sym z ∙ c .1)

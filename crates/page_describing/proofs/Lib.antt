@@ -1,2 +1,3 @@
 pub mod Ahead
+pub mod Numbers
 pub mod Means

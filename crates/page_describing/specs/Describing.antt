@@ -1,6 +1,6 @@
 -- What the page of any engine whatever says: the code's promises cite these. An object is taken modulo 16, and past priority 15 a queue is empty.
 -- Assumes nothing.
-use Prim.Native.Nat.{ℕ}
+use Prim.Native.Nat.{ℕ, _+_, _%_}
 use mathlib.Core.Bool.{cond}
 use mathlib.Core.List.{List}
 use lib.ListN.{getD}
@@ -27,6 +27,10 @@ use Rattle.page.specs.declared.Page.{Page}
 -- the set of queues in which a thread with this row stands
 unfoldable pub setModel : Scheduler → Thread → Queues
 setModel x row = cond (eqb (row .state) 1) (x .threads .ready) (cond (eqb (row .state) 3) (forMutexOf x (row .object)) (onConditionOf x (row .object)))
+
+-- the number of that set
+unfoldable pub setNumber : Thread → ℕ
+setNumber row = cond (eqb (row .state) 1) 0 (cond (eqb (row .state) 3) (1 + row .object % 16) (17 + row .object % 16))
 
 -- the place of thread t with this row in its queue
 unfoldable pub placeModel : Scheduler → Thread → ℕ → ℕ

@@ -1,4 +1,4 @@
-// The page of an engine: what a saved record says of it, row by row, for any engine whatever.
+// The page of an engine: what a saved record says of it, row by row, for any engine whatever. The engine stands in three lent arrays and is read there.
 use limits::FOR_MUTEX;
 use limits::READY;
 use limits::RUNNING;
@@ -13,16 +13,24 @@ use page::ThreadRow;
 use page::ThreadRows;
 use page::TimerRow;
 use page::TimerRows;
-use queue::Links;
+use place_calls::Counts;
+use place_clock::ClockWords;
+use place_clock::count_at;
+use place_clock::timer_at;
+use place_packing::mutexes_in;
+use place_packing::ties_in;
+use place_tables::CONDITION_SETS;
+use place_tables::Cells;
+use place_tables::MUTEX_SETS;
+use place_tables::READY_SET;
+use place_tables::link_at;
+use place_tables::queue_at;
+use place_tables::thread_at;
 use queue::Queue;
-use queue::Queues;
 use value_effects::OBJECTS;
-use value_effects::Scheduler;
-use value_engine::Engine;
-use value_engine::Timer;
-use value_engine::TimerTable;
 use value_tables::Thread;
-use wheel::Wheel;
+use wheel::WheelWords;
+use wheel::left;
 ghost use mathlib.Core.Path.{_≡_};
 ghost use mathlib.Core.Bool.{true};
 ghost use Rattle.laws.specs.Lists.{tabulate};
@@ -30,13 +38,17 @@ ghost use Rattle.queue.specs.Linking.{readModel};
 ghost use Rattle.rules.specs.State.{State};
 ghost use Rattle.rules.specs.Sound.{sound};
 ghost use Rattle.rules.specs.Page.{ahead, pageOf};
+ghost use Rattle.wheel.specs.Promise.{wheelIn};
+ghost use Rattle.place_tables.specs.Cells.{schedulerIn};
+ghost use Rattle.place_clock.specs.Clock.{clockIn, timerOf};
+ghost use Rattle.place_timers.specs.Arrays.{engineOn};
 ghost use Rattle.value_engine.specs.Stands.{engineOf};
 ghost use Rattle.page.specs.Says.{pageFor};
-ghost use Rattle.page_describing.specs.Describing.{setModel, placeModel, threadModel, timerModel, timerAt, describeModel};
+ghost use Rattle.page_describing.specs.Describing.{setNumber, placeModel, threadModel, timerModel, timerAt, describeModel};
 
 // How many stand ahead of thread t in a queue, along the links, at most 32 steps.
-fn ahead_of(links: Links, queue: Queue, t: u8) -> u8
-    ensures { λ r. ⌜ r ≡ ahead t (readModel links queue) ⌝ }
+fn ahead_of(cells: &Cells, queue: Queue, t: u8) -> u8
+    ensures { λ r. ⌜ r ≡ ahead t (readModel (schedulerIn (now (cells .entry)) .threads .links) queue) ⌝ }
 {
     let mut count: u8 = 0;
     let mut here = queue.first;
@@ -47,48 +59,43 @@ fn ahead_of(links: Links, queue: Queue, t: u8) -> u8
         if t == here {
             return count;
         }
-        let i = here as usize;
-        here = links.next[i];
+        here = link_at(cells, here);
         count += 1;
     }
     count
 }
 
-// The set of queues in which a thread with this row stands; its object is taken modulo 16.
-fn set_of(scheduler: Scheduler, row: Thread) -> Queues
-    ensures { λ r. ⌜ r ≡ setModel scheduler row ⌝ }
+// The number of the set of queues in which a thread with this row stands; its object is taken modulo 16.
+fn set_of(row: Thread) -> u8
+    ensures { λ r. ⌜ r ≡ setNumber row ⌝ }
 {
-    let i = (row.object % OBJECTS) as usize;
     if row.state == READY {
-        let threads = scheduler.threads;
-        return threads.ready;
+        return READY_SET;
     }
     if row.state == FOR_MUTEX {
-        return scheduler.formutex[i];
+        return MUTEX_SETS + row.object % OBJECTS;
     }
-    scheduler.oncondition[i]
+    CONDITION_SETS + row.object % OBJECTS
 }
 
 // The place of thread t with this row in its queue; the running thread's is 0.
-fn place_of(scheduler: Scheduler, row: Thread, t: u8) -> u8
-    ensures { λ r. ⌜ r ≡ placeModel scheduler row t ⌝ }
+fn place_of(cells: &Cells, row: Thread, t: u8) -> u8
+    ensures { λ r. ⌜ r ≡ placeModel (schedulerIn (now (cells .entry))) row t ⌝ }
 {
     if row.state == RUNNING {
         return 0;
     }
-    let set = set_of(scheduler, row);
-    let queue = set.level(row.priority);
-    let threads = scheduler.threads;
-    let links = threads.links;
-    ahead_of(links, queue, t)
+    let set = set_of(row);
+    let queue = queue_at(cells, set, row.priority);
+    ahead_of(cells, queue, t)
 }
 
 // The page's row of thread t.
-fn thread_row(scheduler: Scheduler, t: u8) -> ThreadRow
-    ensures { λ r. ⌜ r ≡ threadModel scheduler t ⌝ }
+fn thread_row(cells: &Cells, t: u8) -> ThreadRow
+    ensures { λ r. ⌜ r ≡ threadModel (schedulerIn (now (cells .entry))) t ⌝ }
 {
-    let row = scheduler.row(t);
-    let place = place_of(scheduler, row, t);
+    let row = thread_at(cells, t);
+    let place = place_of(cells, row, t);
     ThreadRow {
         base: row.base,
         state: row.state,
@@ -98,14 +105,14 @@ fn thread_row(scheduler: Scheduler, t: u8) -> ThreadRow
 }
 
 // The page's rows of all threads.
-fn thread_rows(scheduler: Scheduler) -> ThreadRows
-    ensures { λ r. ⌜ r ≡ tabulate 32 (threadModel scheduler) ⌝ }
+fn thread_rows(cells: &Cells) -> ThreadRows
+    ensures { λ r. ⌜ r ≡ tabulate 32 (threadModel (schedulerIn (now (cells .entry)))) ⌝ }
 {
     let blank = BLANK_ROW;
     let mut rows = [blank; THREAD_ROWS];
     let mut t: u8 = 0;
     while t < THREADS {
-        let row = thread_row(scheduler, t);
+        let row = thread_row(cells, t);
         let i = t as usize;
         rows[i] = row;
         t += 1;
@@ -113,12 +120,13 @@ fn thread_rows(scheduler: Scheduler) -> ThreadRows
     rows
 }
 
-// The page's row of the timer with this row; its ticks left are the wheel's.
-fn timer_row(row: Timer, wheel: Wheel, id: u8) -> TimerRow
-    ensures { λ r. ⌜ r ≡ timerModel row wheel id ⌝ }
+// The page's row of timer id; its ticks left are the wheel's.
+fn timer_row(clock: &ClockWords, wheel: &WheelWords, id: u8) -> TimerRow
+    ensures { λ r. ⌜ r ≡ timerModel (timerOf (clockIn (now (clock .entry))) id) (wheelIn (now (wheel .entry))) id ⌝ }
 {
+    let row = timer_at(clock, id);
     let length = row.length;
-    let left = wheel.left(id);
+    let left = left(wheel, id);
     TimerRow {
         state: row.state,
         condition: row.condition,
@@ -128,41 +136,38 @@ fn timer_row(row: Timer, wheel: Wheel, id: u8) -> TimerRow
 }
 
 // The page's rows of all timers.
-fn timer_rows(timers: TimerTable, wheel: Wheel) -> TimerRows
-    ensures { λ r. ⌜ r ≡ tabulate 32 (timerAt timers wheel) ⌝ }
+fn timer_rows(clock: &ClockWords, wheel: &WheelWords) -> TimerRows
+    ensures { λ r. ⌜ r ≡ tabulate 32 (timerAt (clockIn (now (clock .entry)) .timers) (wheelIn (now (wheel .entry)))) ⌝ }
 {
     let stopped = STOPPED_ROW;
     let mut rows = [stopped; TIMER_ROWS];
     let mut id: u8 = 0;
     while id < TIMERS {
+        let row = timer_row(clock, wheel, id);
         let i = id as usize;
-        let timer = timers[i];
-        let row = timer_row(timer, wheel, id);
         rows[i] = row;
         id += 1;
     }
     rows
 }
 
-// The page of an engine; for the engine of a sound state the page of that state, blank past the counts.
-pub fn describe(engine: Engine) -> Page
-    ensures always { λ r. ⌜ r ≡ describeModel engine ⌝ }
-    ensures means { λ r. ⌜ ((s : State) → sound s ≡ true → engine ≡ engineOf s → r ≡ pageFor (pageOf s)) ⌝ }
+// The page of an engine that stands in three arrays; for the engine of a sound state the page of that state, blank past the counts.
+pub fn describe(cells: &Cells, clock: &ClockWords, wheel: &WheelWords, counts: Counts) -> Page
+    ensures always { λ r. ⌜ r ≡ describeModel (engineOn (now (cells .entry)) (now (clock .entry)) (now (wheel .entry)) counts) ⌝ }
+    ensures means { λ r. ⌜ ((s : State) → sound s ≡ true → engineOn (now (cells .entry)) (now (clock .entry)) (now (wheel .entry)) counts ≡ engineOf s → r ≡ pageFor (pageOf s)) ⌝ }
 {
-    let scheduler = engine.scheduler;
-    let timers = engine.timers;
-    let wheel = engine.wheel;
-    let threadrows = thread_rows(scheduler);
-    let timerrows = timer_rows(timers, wheel);
-    let mutexrows = scheduler.mutexes;
-    let ties = scheduler.ties;
+    let threadrows = thread_rows(cells);
+    let mutexrows = mutexes_in(cells);
+    let ties = ties_in(cells);
+    let timerrows = timer_rows(clock, wheel);
+    let count = count_at(clock);
     Page {
-        started: engine.started,
-        count: engine.count,
-        threads: engine.threads,
-        mutexes: engine.mutexes,
-        conditions: engine.conditions,
-        timers: engine.timercount,
+        started: counts.started,
+        count,
+        threads: counts.threads,
+        mutexes: counts.mutexes,
+        conditions: counts.conditions,
+        timers: counts.timercount,
         threadrows,
         mutexrows,
         ties,

@@ -1,6 +1,5 @@
 // Calls 1 to 10, which leave timers and wheel alone, with the scheduler changed in place.
 use calls::Answer;
-use calls::Call;
 use calls::Verdict;
 use calls::number;
 use limits::CONDITIONS;
@@ -25,15 +24,12 @@ use refusals::ids_verdict;
 use refusals::release_verdict;
 use refusals::room_verdict;
 use refusals::start_verdict;
-use value_engine::TimerTable;
-use wheel::Wheel;
 ghost use mathlib.Core.Path.{_≡_};
 ghost use mathlib.Core.Bool.{true, false};
 ghost use Rattle.calls.specs.Answers.{numberOf};
 ghost use Rattle.place_tables.specs.Cells.{schedulerIn};
 ghost use Rattle.value_engine.specs.Engines.{answeredModel, startModel, createThreadModel, createMutexModel, createConditionModel, createTimerModel, acquireModel, releaseModel, waitModel, signalModel, broadcastModel};
-ghost use Rattle.place_calls.specs.declared.Clock.{Clock};
-ghost use Rattle.place_calls.specs.Standing.{engineIn, steppedIn, untimedModel};
+ghost use Rattle.place_calls.specs.Standing.{Timing, engineIn, steppedIn};
 
 // Whether the scheduler is started, and how many rows of each table are in use.
 pub struct Counts {
@@ -42,13 +38,6 @@ pub struct Counts {
     pub mutexes: u8,
     pub conditions: u8,
     pub timercount: u8,
-}
-
-// The timers, their wheel, and the tick count.
-pub struct Clock {
-    pub timers: TimerTable,
-    pub wheel: Wheel,
-    pub count: u32,
 }
 
 // The counts that follow, and the answer.
@@ -72,7 +61,7 @@ pub fn refuse(cells: &Cells, verdict: Verdict) -> Answer
 
 // The answer to an accepted call whose effect is done: while started the next thread is chosen.
 pub fn finish(cells: &mut Cells, counts: Counts, given: u16, tick: bool) -> Answer
-    ensures { λ r. ⌜ ((clock : Clock) → steppedIn (now (cells .exit)) clock counts r ≡ answeredModel (engineIn (now (cells .entry)) clock counts) given tick) ⌝ }
+    ensures { λ r. ⌜ ((timing : Timing) → steppedIn (now (cells .exit)) timing counts r ≡ answeredModel (engineIn (now (cells .entry)) timing counts) given tick) ⌝ }
 {
     if counts.started {
         choose_next(cells, tick);
@@ -87,7 +76,7 @@ pub fn finish(cells: &mut Cells, counts: Counts, given: u16, tick: bool) -> Answ
 
 // Call 6.
 pub fn acquire(cells: &mut Cells, counts: Counts, m: u8) -> Answer
-    ensures { λ r. ⌜ ((clock : Clock) → steppedIn (now (cells .exit)) clock counts r ≡ acquireModel (engineIn (now (cells .entry)) clock counts) m) ⌝ }
+    ensures { λ r. ⌜ ((timing : Timing) → steppedIn (now (cells .exit)) timing counts r ≡ acquireModel (engineIn (now (cells .entry)) timing counts) m) ⌝ }
 {
     let running = running_at(cells);
     let row = mutex_at(cells, m);
@@ -110,7 +99,7 @@ pub fn acquire(cells: &mut Cells, counts: Counts, m: u8) -> Answer
 
 // Call 7.
 pub fn release(cells: &mut Cells, counts: Counts, m: u8) -> Answer
-    ensures { λ r. ⌜ ((clock : Clock) → steppedIn (now (cells .exit)) clock counts r ≡ releaseModel (engineIn (now (cells .entry)) clock counts) m) ⌝ }
+    ensures { λ r. ⌜ ((timing : Timing) → steppedIn (now (cells .exit)) timing counts r ≡ releaseModel (engineIn (now (cells .entry)) timing counts) m) ⌝ }
 {
     let running = running_at(cells);
     let row = mutex_at(cells, m);
@@ -125,7 +114,7 @@ pub fn release(cells: &mut Cells, counts: Counts, m: u8) -> Answer
 
 // Call 8.
 pub fn wait(cells: &mut Cells, counts: Counts, c: u8, m: u8) -> Answer
-    ensures { λ r. ⌜ ((clock : Clock) → steppedIn (now (cells .exit)) clock counts r ≡ waitModel (engineIn (now (cells .entry)) clock counts) c m) ⌝ }
+    ensures { λ r. ⌜ ((timing : Timing) → steppedIn (now (cells .exit)) timing counts r ≡ waitModel (engineIn (now (cells .entry)) timing counts) c m) ⌝ }
 {
     let running = running_at(cells);
     let row = mutex_at(cells, m);
@@ -144,7 +133,7 @@ pub fn wait(cells: &mut Cells, counts: Counts, c: u8, m: u8) -> Answer
 
 // Call 9.
 pub fn signal(cells: &mut Cells, counts: Counts, c: u8) -> Answer
-    ensures { λ r. ⌜ ((clock : Clock) → steppedIn (now (cells .exit)) clock counts r ≡ signalModel (engineIn (now (cells .entry)) clock counts) c) ⌝ }
+    ensures { λ r. ⌜ ((timing : Timing) → steppedIn (now (cells .exit)) timing counts r ≡ signalModel (engineIn (now (cells .entry)) timing counts) c) ⌝ }
 {
     let verdict = id_verdict(counts.started, counts.conditions, c);
     let n = number(verdict);
@@ -157,7 +146,7 @@ pub fn signal(cells: &mut Cells, counts: Counts, c: u8) -> Answer
 
 // Call 10.
 pub fn broadcast(cells: &mut Cells, counts: Counts, c: u8) -> Answer
-    ensures { λ r. ⌜ ((clock : Clock) → steppedIn (now (cells .exit)) clock counts r ≡ broadcastModel (engineIn (now (cells .entry)) clock counts) c) ⌝ }
+    ensures { λ r. ⌜ ((timing : Timing) → steppedIn (now (cells .exit)) timing counts r ≡ broadcastModel (engineIn (now (cells .entry)) timing counts) c) ⌝ }
 {
     let verdict = id_verdict(counts.started, counts.conditions, c);
     let n = number(verdict);
@@ -169,7 +158,7 @@ pub fn broadcast(cells: &mut Cells, counts: Counts, c: u8) -> Answer
 }
 
 // The counts with an answer.
-fn with_answer(counts: Counts, answer: Answer) -> Counted
+pub fn with_answer(counts: Counts, answer: Answer) -> Counted
     ensures { λ r. ⌜ r ≡ record { counts = counts; answer = answer } ⌝ }
 {
     Counted { counts, answer }
@@ -177,7 +166,7 @@ fn with_answer(counts: Counts, answer: Answer) -> Counted
 
 // Call 1.
 pub fn start(cells: &mut Cells, mut counts: Counts) -> Counted
-    ensures { λ r. ⌜ ((clock : Clock) → steppedIn (now (cells .exit)) clock (r .counts) (r .answer) ≡ startModel (engineIn (now (cells .entry)) clock counts)) ⌝ }
+    ensures { λ r. ⌜ ((timing : Timing) → steppedIn (now (cells .exit)) timing (r .counts) (r .answer) ≡ startModel (engineIn (now (cells .entry)) timing counts)) ⌝ }
 {
     let verdict = start_verdict(counts.started);
     let n = number(verdict);
@@ -193,7 +182,7 @@ pub fn start(cells: &mut Cells, mut counts: Counts) -> Counted
 
 // Call 2.
 pub fn create_thread(cells: &mut Cells, mut counts: Counts, base: u8) -> Counted
-    ensures { λ r. ⌜ ((clock : Clock) → steppedIn (now (cells .exit)) clock (r .counts) (r .answer) ≡ createThreadModel (engineIn (now (cells .entry)) clock counts) base) ⌝ }
+    ensures { λ r. ⌜ ((timing : Timing) → steppedIn (now (cells .exit)) timing (r .counts) (r .answer) ≡ createThreadModel (engineIn (now (cells .entry)) timing counts) base) ⌝ }
 {
     let id = counts.threads;
     let verdict = created_verdict(base, id, THREADS);
@@ -210,7 +199,7 @@ pub fn create_thread(cells: &mut Cells, mut counts: Counts, base: u8) -> Counted
 
 // Call 3.
 pub fn create_mutex(cells: &mut Cells, mut counts: Counts, ceiling: u8) -> Counted
-    ensures { λ r. ⌜ ((clock : Clock) → steppedIn (now (cells .exit)) clock (r .counts) (r .answer) ≡ createMutexModel (engineIn (now (cells .entry)) clock counts) ceiling) ⌝ }
+    ensures { λ r. ⌜ ((timing : Timing) → steppedIn (now (cells .exit)) timing (r .counts) (r .answer) ≡ createMutexModel (engineIn (now (cells .entry)) timing counts) ceiling) ⌝ }
 {
     let id = counts.mutexes;
     let verdict = created_verdict(ceiling, id, MUTEXES);
@@ -227,7 +216,7 @@ pub fn create_mutex(cells: &mut Cells, mut counts: Counts, ceiling: u8) -> Count
 
 // Call 4.
 pub fn create_condition(cells: &mut Cells, mut counts: Counts) -> Counted
-    ensures { λ r. ⌜ ((clock : Clock) → steppedIn (now (cells .exit)) clock (r .counts) (r .answer) ≡ createConditionModel (engineIn (now (cells .entry)) clock counts)) ⌝ }
+    ensures { λ r. ⌜ ((timing : Timing) → steppedIn (now (cells .exit)) timing (r .counts) (r .answer) ≡ createConditionModel (engineIn (now (cells .entry)) timing counts)) ⌝ }
 {
     let id = counts.conditions;
     let verdict = room_verdict(id, CONDITIONS);
@@ -243,7 +232,7 @@ pub fn create_condition(cells: &mut Cells, mut counts: Counts) -> Counted
 
 // Call 5.
 pub fn create_timer(cells: &mut Cells, mut counts: Counts) -> Counted
-    ensures { λ r. ⌜ ((clock : Clock) → steppedIn (now (cells .exit)) clock (r .counts) (r .answer) ≡ createTimerModel (engineIn (now (cells .entry)) clock counts)) ⌝ }
+    ensures { λ r. ⌜ ((timing : Timing) → steppedIn (now (cells .exit)) timing (r .counts) (r .answer) ≡ createTimerModel (engineIn (now (cells .entry)) timing counts)) ⌝ }
 {
     let id = counts.timercount;
     let verdict = room_verdict(id, TIMERS);
@@ -255,25 +244,4 @@ pub fn create_timer(cells: &mut Cells, mut counts: Counts) -> Counted
     counts.timercount = id % TIMERS + 1;
     let answer = finish(cells, counts, id as u16, false);
     with_answer(counts, answer)
-}
-
-// A call of 1 to 10. A call on timers is not for here: nothing changes, and it is answered as a wrong row is.
-pub fn untimed_call(cells: &mut Cells, counts: Counts, call: Call) -> Counted
-    ensures { λ r. ⌜ ((clock : Clock) → steppedIn (now (cells .exit)) clock (r .counts) (r .answer) ≡ untimedModel (engineIn (now (cells .entry)) clock counts) call) ⌝ }
-{
-    match call {
-        Call::Start => start(cells, counts),
-        Call::CreateThread(base) => create_thread(cells, counts, base),
-        Call::CreateMutex(ceiling) => create_mutex(cells, counts, ceiling),
-        Call::CreateCondition => create_condition(cells, counts),
-        Call::CreateTimer => create_timer(cells, counts),
-        Call::Acquire(m) => with_answer(counts, acquire(cells, counts, m)),
-        Call::Release(m) => with_answer(counts, release(cells, counts, m)),
-        Call::Wait(c, m) => with_answer(counts, wait(cells, counts, c, m)),
-        Call::Signal(c) => with_answer(counts, signal(cells, counts, c)),
-        Call::Broadcast(c) => with_answer(counts, broadcast(cells, counts, c)),
-        Call::StartTimer(_, _, _, _) => with_answer(counts, refuse(cells, Verdict::WrongRow)),
-        Call::StopTimer(_) => with_answer(counts, refuse(cells, Verdict::WrongRow)),
-        Call::Tick => with_answer(counts, refuse(cells, Verdict::WrongRow)),
-    }
 }

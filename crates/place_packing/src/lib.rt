@@ -125,7 +125,7 @@ fn sets_in(cells: &Cells, kind: u8) -> Sets
 }
 
 // The rows of the mutexes.
-fn mutexes_in(cells: &Cells) -> MutexTable
+pub fn mutexes_in(cells: &Cells) -> MutexTable
     ensures { λ r. ⌜ r ≡ tabulate 16 (mutexIn (now (cells .entry))) ⌝ }
 {
     let blank = Mutex {
@@ -145,7 +145,7 @@ fn mutexes_in(cells: &Cells) -> MutexTable
 }
 
 // The ties of the condition variables.
-fn ties_in(cells: &Cells) -> Ties
+pub fn ties_in(cells: &Cells) -> Ties
     ensures { λ r. ⌜ r ≡ tabulate 16 (tieIn (now (cells .entry))) ⌝ }
 {
     let mut ties = [0u8; CONDITION_ROWS];

@@ -2,13 +2,17 @@
 -- Assumes nothing.
 use Prim.Native.Nat.{ℕ, _+_, _%_, _<_, _≤_}
 use mathlib.Core.Path.{_≡_, refl, sym, ap, _∙_}
+use mathlib.Core.Logic.{_≢_}
+use mathlib.Core.Bool.{cond}
 use native.Mathlib.Omega.{arith}
 use lib.ListN.{getD, set}
 use lib.Seq.{set-getD}
-use borrow.Author.Tests.{lt-ltb, le-ltb, ne-eqb}
+use lib.Dec.{eqb}
+use borrow.Author.Tests.{lt-ltb, le-ltb, eq-eqb, ne-eqb}
+use Rattle.queue.specs.declared.Queue.{Queue}
 use Rattle.queue.specs.declared.Queues.{Queues}
-use Rattle.queue.specs.Linking.{emptyQueue, levelModel, withLevelModel, backModel, frontModel, leaveModel}
-use Rattle.value_tables.specs.Tables.{joinModel, joinFrontModel, departModel}
+use Rattle.queue.specs.Linking.{emptyQueue, levelModel, withLevelModel, backModel, frontModel, leaveModel, aheadModel, removeBehind, removeModel}
+use Rattle.value_tables.specs.Tables.{joinModel, joinFrontModel, departModel, removeFromModel}
 use Rattle.value_tables.specs.declared.Threads.{Threads}
 use Rattle.value_effects.specs.declared.Scheduler.{Scheduler}
 use Rattle.value_effects.specs.Effects.{noSet, withThreads, forMutexOf, onConditionOf, withForMutex, withOnCondition}
@@ -19,6 +23,10 @@ use Rattle.place_queues.specs.Joining.{linksKept, withJoined}
 -- an id below 32 modulo 32
 small : (t : ℕ) → t < 32 → t % 32 ≡ t
 small t l = omega arith
+
+-- the link of a thread is read
+pub link-read : (x : Scheduler) (t : ℕ) → t < 32 → linkOf x t ≡ getD (linksKept x .next) t 0
+link-read x t h = ap (λ i. getD (linksKept x .next) i 0) (small t h)
 
 module _ (x : Scheduler) (n p : ℕ) where
   -- the queue put back as it was
@@ -87,6 +95,46 @@ module _ (x : Scheduler) (n p : ℕ) where
       let e = small (queueNumbered x n p .first) h in
       let g : 32 ≤ getD (linksKept x .next) (queueNumbered x n p .first) 0 = rw (← e) l in
       rw (lt-ltb (queueNumbered x n p .first) 32 h, le-ltb (getD (linksKept x .next) (queueNumbered x n p .first) 0) 32 g, linked-set (queueNumbered x n p .first) 255, e) refl
+
+  -- no thread is removed
+  pub remove-none : (t : ℕ) → 32 ≤ t → x ≡ withJoined x n (removeFromModel (linksKept x) (setNumbered x n) p t)
+  unfolding removeFromModel removeModel
+  remove-none t h = rw (le-ltb t 32 h) (sym kept)
+
+module _ (x : Scheduler) (n p t : ℕ) (queue : Queue) (read : queue ≡ queueNumbered x n p) (h : t < 32) where
+  -- the first is removed
+  pub remove-first : queue .first ≡ t → withJoined x n (departModel (linksKept x) (setNumbered x n) p) ≡ withJoined x n (removeFromModel (linksKept x) (setNumbered x n) p t)
+  unfolding removeFromModel removeModel departModel
+  remove-first e = rw (← read, lt-ltb t 32 h, eq-eqb (queue .first) t e) refl
+
+  module _ (v : ℕ) (other : queue .first ≢ t) (found : v ≡ aheadModel (linksKept x .next) 32 (queue .first) t) where
+    -- one who does not stand there is not
+    pub remove-nowhere : 32 ≤ v → x ≡ withJoined x n (removeFromModel (linksKept x) (setNumbered x n) p t)
+    unfolding removeFromModel removeModel removeBehind
+    remove-nowhere l = sym (kept x n p) ∙ rw (← read, lt-ltb t 32 h, ne-eqb (queue .first) t other, ← found, le-ltb v 32 l) refl
+
+    module _ (l : v < 32) where
+      -- the links without t
+      abbrev y : Scheduler
+      y = withLink (withLink x v (linkOf x t)) t 255
+
+      -- they do not change a set
+      same-set : setNumbered y n ≡ setNumbered x n
+      same-set = linked-set (withLink x v (linkOf x t)) n p t 255 ∙ linked-set x n p v (linkOf x t)
+
+      -- one behind others is
+      behind : withQueue y n p (record { first = queue .first; last = cond (eqb (queue .last) t) v (queue .last) }) ≡ withJoined x n (removeFromModel (linksKept x) (setNumbered x n) p t)
+      unfolding removeFromModel removeModel removeBehind
+      behind = rw (same-set, ← read, lt-ltb t 32 h, ne-eqb (queue .first) t other, ← found, lt-ltb v 32 l, small v l, small t h) refl
+
+      -- as the last
+      pub remove-last : queue .last ≡ t → withQueue y n p (record { first = queue .first; last = v }) ≡ withJoined x n (removeFromModel (linksKept x) (setNumbered x n) p t)
+      remove-last e = ap (λ u. withQueue y n p (record { first = queue .first; last = cond u v (queue .last) })) (sym (eq-eqb (queue .last) t e)) ∙ behind
+
+      -- or before others, and the ends of the queue stay
+      pub remove-between : queue .last ≢ t → y ≡ withJoined x n (removeFromModel (linksKept x) (setNumbered x n) p t)
+      remove-between e = sym (kept y n p) ∙ ap (withQueue y n p) (ap (λ s. levelModel s p) same-set ∙ sym read)
+          ∙ ap (λ u. withQueue y n p (record { first = queue .first; last = cond u v (queue .last) })) (sym (ne-eqb (queue .last) t e)) ∙ behind
 
 -- ---- the sets of mutexes and condition variables
 

@@ -1,11 +1,11 @@
--- A thread that joins the set of a mutex or of a condition variable and stands there: as the definition has it.
+-- A thread that joins the set of a mutex or of a condition variable and stands there, or leaves it: as the definition has it.
 -- Assumes nothing.
 use Prim.Native.Nat.{ℕ, _+_, _%_}
 use mathlib.Core.Path.{_≡_, ap, _∙_}
 use Rattle.queue.specs.declared.Queues.{Queues}
 use Rattle.value_tables.specs.declared.Joined.{Joined}
 use Rattle.value_tables.specs.Tables as tables
-use Rattle.value_tables.specs.Tables.{rowOf, joinModel, departModel, standModel, withLinks, leaveModelIn}
+use Rattle.value_tables.specs.Tables.{rowOf, joinModel, departModel, removeFromModel, standModel, withLinks, leaveModelIn, removeModelIn}
 use Rattle.value_effects.specs.declared.Scheduler.{Scheduler}
 use Rattle.value_effects.specs.Effects.{withThreads, forMutexOf, onConditionOf, withForMutex, withOnCondition, waitForModel, waitOnModel}
 use Rattle.place_tables.specs.Changes.{setNumbered}
@@ -46,3 +46,13 @@ module _ (x : Scheduler) (m : ℕ) where
   pub leaves-condition : (p : ℕ) → withJoined x ((m % 16 + 17) % 33) (departModel (linksKept x) (setNumbered x ((m % 16 + 17) % 33)) p) ≡ withOnCondition x m (leaveModelIn (x .threads) (onConditionOf x m) p)
   unfolding leaveModelIn
   leaves-condition p = on-joined (λ s. departModel (linksKept x) s p)
+
+  -- thread t leaves the queue of priority p at the mutex
+  pub removes-mutex : (p t : ℕ) → withJoined x ((m % 16 + 1) % 33) (removeFromModel (linksKept x) (setNumbered x ((m % 16 + 1) % 33)) p t) ≡ withForMutex x m (removeModelIn (x .threads) (forMutexOf x m) p t)
+  unfolding removeModelIn
+  removes-mutex p t = for-joined (λ s. removeFromModel (linksKept x) s p t)
+
+  -- thread t leaves the queue of priority p at the condition variable
+  pub removes-condition : (p t : ℕ) → withJoined x ((m % 16 + 17) % 33) (removeFromModel (linksKept x) (setNumbered x ((m % 16 + 17) % 33)) p t) ≡ withOnCondition x m (removeModelIn (x .threads) (onConditionOf x m) p t)
+  unfolding removeModelIn
+  removes-condition p t = on-joined (λ s. removeFromModel (linksKept x) s p t)

@@ -3,7 +3,7 @@
 use Prim.Native.Nat.{ℕ}
 use Rattle.queue.specs.declared.Links.{Links}
 use Rattle.value_tables.specs.declared.Joined.{Joined}
-use Rattle.value_tables.specs.Tables.{withLinks, joinModel, joinFrontModel, departModel, standModel, arriveInFrontModel}
+use Rattle.value_tables.specs.Tables.{withLinks, joinModel, joinFrontModel, departModel, removeFromModel, standModel, arriveInFrontModel}
 use Rattle.value_effects.specs.declared.Scheduler.{Scheduler}
 use Rattle.value_effects.specs.Effects.{withThreads}
 use Rattle.place_tables.specs.Changes.{withSet, setNumbered}
@@ -27,6 +27,10 @@ joinedInFront x n p t = withJoined x n (joinFrontModel (linksKept x) (setNumbere
 -- the first of the queue of priority p has left set n
 abbrev pub departed : Scheduler → ℕ → ℕ → Scheduler
 departed x n p = withJoined x n (departModel (linksKept x) (setNumbered x n) p)
+
+-- thread t has left the queue of priority p in set n from wherever it stood there
+abbrev pub removed : Scheduler → ℕ → ℕ → ℕ → Scheduler
+removed x n p t = withJoined x n (removeFromModel (linksKept x) (setNumbered x n) p t)
 
 -- thread t stands elsewhere
 abbrev pub stood : Scheduler → ℕ → ℕ → ℕ → Scheduler

@@ -28,11 +28,12 @@ use value_tables::Head;
 use value_tables::Thread;
 ghost use mathlib.Core.Path.{_≡_};
 ghost use Prim.Native.Nat.{_%_};
+ghost use Rattle.queue.specs.Linking.{aheadModel};
 ghost use Rattle.value_tables.specs.Tables.{headModel};
 ghost use Rattle.value_effects.specs.Effects.{readyModel, waitForModel, waitOnModel, runFirstModel, chooseNextModel};
 ghost use Rattle.place_tables.specs.Cells.{schedulerIn};
 ghost use Rattle.place_tables.specs.Changes.{setNumbered};
-ghost use Rattle.place_queues.specs.Joining.{joined, joinedInFront, departed, stood, arrivedInFront};
+ghost use Rattle.place_queues.specs.Joining.{linksKept, joined, joinedInFront, departed, removed, stood, arrivedInFront};
 
 // Thread t arrives at the back of the queue of priority p in set n.
 fn join(cells: &mut Cells, n: u8, p: u8, t: u8)
@@ -95,6 +96,54 @@ pub fn depart(cells: &mut Cells, n: u8, p: u8)
         return;
     }
     put_queue(cells, n, p, Queue::empty());
+}
+
+// The thread that t follows on the way from the first along at most 32 links, 255 for none.
+fn ahead(cells: &Cells, first: u8, t: u8) -> u8
+    ensures { λ r. ⌜ r ≡ aheadModel (linksKept (schedulerIn (now (cells .entry))) .next) 32 first t ⌝ }
+{
+    let mut met = first;
+    let mut passed: u8 = 0;
+    while passed < THREADS {
+        if THREADS <= met {
+            return NONE;
+        }
+        let after = link_at(cells, met);
+        if after == t {
+            return met;
+        }
+        met = after;
+        passed += 1;
+    }
+    NONE
+}
+
+// Thread t leaves the queue of priority p in set n from wherever it stands there; where it does not, nothing changes.
+pub fn remove(cells: &mut Cells, n: u8, p: u8, t: u8)
+    ensures { λ _. ⌜ schedulerIn (now (cells .exit)) ≡ removed (schedulerIn (now (cells .entry))) (n % 33) p t ⌝ }
+{
+    if THREADS <= t {
+        return;
+    }
+    let queue = queue_at(cells, n, p);
+    if queue.first == t {
+        depart(cells, n, p);
+        return;
+    }
+    let ahead = ahead(cells, queue.first, t);
+    if THREADS <= ahead {
+        return;
+    }
+    let after = link_at(cells, t);
+    put_link(cells, ahead, after);
+    put_link(cells, t, NONE);
+    if queue.last == t {
+        let shorter = Queue {
+            first: queue.first,
+            last: ahead,
+        };
+        put_queue(cells, n, p, shorter);
+    }
 }
 
 // The first of the highest non-empty queue of set n.

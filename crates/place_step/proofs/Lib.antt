@@ -1,2 +1,2 @@
 pub mod Once
-pub mod Sorts
+pub mod Apart

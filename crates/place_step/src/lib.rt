@@ -1,28 +1,45 @@
-// A row that was taken apart as one call on a kernel whose scheduler stands in an array and is changed in place; and the engine taken apart so, and put together.
+// A row as one call on a kernel that stands in three lent arrays, and the engine taken apart so and put together.
 use calls::Call;
 use calls::Decoded;
+use calls::Row;
 use calls::Verdict;
-use place_calls::Clock;
+use calls::decode;
 use place_calls::Counted;
 use place_calls::Counts;
+use place_calls::acquire;
+use place_calls::broadcast;
+use place_calls::create_condition;
+use place_calls::create_mutex;
+use place_calls::create_thread;
+use place_calls::create_timer;
 use place_calls::refuse;
-use place_calls::untimed_call;
+use place_calls::release;
+use place_calls::signal;
+use place_calls::start;
+use place_calls::wait;
+use place_calls::with_answer;
+use place_clock::ClockWords;
+use place_clock::clock_of;
+use place_clock::count_at;
+use place_clock::timers_in;
 use place_packing::packed;
 use place_packing::unpacked;
 use place_tables::Cells;
-use place_timers::Timed;
 use place_timers::start_timer;
 use place_timers::stop_timer;
 use place_timers::tick;
 use value_engine::Engine;
+use wheel::WheelWords;
+use wheel::wheel_of;
+use wheel::words_of;
 ghost use mathlib.Core.Path.{_≡_};
+ghost use Rattle.calls.specs.Rows.{decoded};
+ghost use Rattle.wheel.specs.Promise.{wheelIn};
 ghost use Rattle.place_tables.specs.Cells.{schedulerIn};
-ghost use Rattle.calls.specs.declared.Verdict.the-variants.{WrongRow};
-ghost use Rattle.value_engine.specs.Engines.{refusedModel};
-ghost use Rattle.place_calls.specs.declared.Clock.{Clock};
-ghost use Rattle.place_calls.specs.declared.Counts.{Counts};
-ghost use Rattle.place_calls.specs.Standing.{engineIn, steppedIn};
-ghost use Rattle.place_step.specs.Turning.{onTimers, isTimed, untimedRow, timedModel, timedRow, clockOf, countsOf};
+ghost use Rattle.place_clock.specs.Clock.{clockIn, clockOf};
+ghost use Rattle.value_engine.specs.Engines.{stepModel};
+ghost use Rattle.place_timers.specs.Arrays.{engineOn, steppedOn};
+ghost use Rattle.place_step.specs.Turning.{decodedModel, countsOf};
 
 // The scheduler of an engine, in an array.
 pub fn cells_of(engine: Engine) -> Cells
@@ -32,17 +49,20 @@ pub fn cells_of(engine: Engine) -> Cells
     packed(scheduler)
 }
 
-// The timers, the wheel and the tick count of an engine.
-pub fn clock_of(engine: Engine) -> Clock
-    ensures { λ r. ⌜ r ≡ clockOf engine ⌝ }
+// The timers and the tick count of an engine, in an array.
+pub fn clock_words(engine: Engine) -> ClockWords
+    ensures { λ r. ⌜ clockIn r ≡ clockOf (engine .timers) (engine .count) ⌝ }
 {
     let timers = engine.timers;
+    clock_of(timers, engine.count)
+}
+
+// The wheel of an engine, in an array.
+pub fn wheel_words(engine: Engine) -> WheelWords
+    ensures { λ r. ⌜ wheelIn r ≡ engine .wheel ⌝ }
+{
     let wheel = engine.wheel;
-    Clock {
-        timers,
-        wheel,
-        count: engine.count,
-    }
+    words_of(wheel)
 }
 
 // Whether an engine is started, and its counts.
@@ -58,103 +78,71 @@ pub fn counts_of(engine: Engine) -> Counts
     }
 }
 
-// The engine of a scheduler in an array, a clock and counts.
-pub fn engine_of(cells: &Cells, clock: Clock, counts: Counts) -> Engine
-    ensures { λ r. ⌜ r ≡ engineIn (now (cells .entry)) clock counts ⌝ }
+// The engine that stands in three arrays, with its counts.
+pub fn engine_of(cells: &Cells, clock: &ClockWords, wheel: &WheelWords, counts: Counts) -> Engine
+    ensures { λ r. ⌜ r ≡ engineOn (now (cells .entry)) (now (clock .entry)) (now (wheel .entry)) counts ⌝ }
 {
     let scheduler = unpacked(cells);
-    let timers = clock.timers;
-    let wheel = clock.wheel;
+    let timers = timers_in(clock);
+    let count = count_at(clock);
+    let turning = wheel_of(wheel);
     Engine {
         scheduler,
         timers,
-        wheel,
+        wheel: turning,
         started: counts.started,
         threads: counts.threads,
         mutexes: counts.mutexes,
         conditions: counts.conditions,
         timercount: counts.timercount,
-        count: clock.count,
+        count,
     }
 }
 
-// Whether a call starts or stops a timer or is a tick.
-fn on_timers(call: Call) -> bool
-    ensures { λ r. ⌜ r ≡ onTimers call ⌝ }
+// A call: the counts that follow, and the answer.
+fn step(
+    cells: &mut Cells,
+    clock: &mut ClockWords,
+    wheel: &mut WheelWords,
+    counts: Counts,
+    call: Call,
+) -> Counted
+    ensures { λ r. ⌜ steppedOn (now (cells .exit)) (now (clock .exit)) (now (wheel .exit)) (r .counts) (r .answer) ≡ stepModel (engineOn (now (cells .entry)) (now (clock .entry)) (now (wheel .entry)) counts) call ⌝ }
 {
     match call {
-        Call::Start => false,
-        Call::CreateThread(_) => false,
-        Call::CreateMutex(_) => false,
-        Call::CreateCondition => false,
-        Call::CreateTimer => false,
-        Call::Acquire(_) => false,
-        Call::Release(_) => false,
-        Call::Wait(_, _) => false,
-        Call::Signal(_) => false,
-        Call::Broadcast(_) => false,
-        Call::StartTimer(_, _, _, _) => true,
-        Call::StopTimer(_) => true,
-        Call::Tick => true,
+        Call::Start => start(cells, counts),
+        Call::CreateThread(base) => create_thread(cells, counts, base),
+        Call::CreateMutex(ceiling) => create_mutex(cells, counts, ceiling),
+        Call::CreateCondition => create_condition(cells, counts),
+        Call::CreateTimer => create_timer(cells, counts),
+        Call::Acquire(m) => with_answer(counts, acquire(cells, counts, m)),
+        Call::Release(m) => with_answer(counts, release(cells, counts, m)),
+        Call::Wait(c, m) => with_answer(counts, wait(cells, counts, c, m)),
+        Call::Signal(c) => with_answer(counts, signal(cells, counts, c)),
+        Call::Broadcast(c) => with_answer(counts, broadcast(cells, counts, c)),
+        Call::StartTimer(id, c, kind, v) => with_answer(
+            counts,
+            start_timer(cells, clock, wheel, counts, id, c, kind, v),
+        ),
+        Call::StopTimer(id) => with_answer(counts, stop_timer(cells, clock, wheel, counts, id)),
+        Call::Tick => with_answer(counts, tick(cells, clock, wheel, counts)),
     }
 }
 
-// Whether a row is such a call.
-pub fn is_timed(decoded: Decoded) -> bool
-    ensures { λ r. ⌜ r ≡ isTimed decoded ⌝ }
+// A row of 8 bytes: its call done, or answered 17 with nothing changed.
+pub fn step_row(
+    cells: &mut Cells,
+    clock: &mut ClockWords,
+    wheel: &mut WheelWords,
+    counts: Counts,
+    row: Row,
+) -> Counted
+    ensures { λ r. ⌜ steppedOn (now (cells .exit)) (now (clock .exit)) (now (wheel .exit)) (r .counts) (r .answer) ≡ decodedModel (engineOn (now (cells .entry)) (now (clock .entry)) (now (wheel .entry)) counts) (decoded row) ⌝ }
 {
-    let Decoded::Taken(call) = decoded else {
-        return false;
-    };
-    on_timers(call)
-}
-
-// A row that is no call on timers.
-pub fn untimed_row(cells: &mut Cells, counts: Counts, decoded: Decoded) -> Counted
-    ensures { λ r. ⌜ ((clock : Clock) → steppedIn (now (cells .exit)) clock (r .counts) (r .answer) ≡ untimedRow (engineIn (now (cells .entry)) clock counts) decoded) ⌝ }
-{
+    let decoded = decode(row);
     let Decoded::Taken(call) = decoded else {
         let answer = refuse(cells, Verdict::WrongRow);
-        return Counted { counts, answer };
+        return with_answer(counts, answer);
     };
-    untimed_call(cells, counts, call)
-}
-
-// A call that is not one on timers is not for here: nothing changes, and it is answered as a wrong row is.
-fn not_timed(cells: &Cells, clock: Clock) -> Timed
-    ensures { λ r. ⌜ ((counts : Counts) → steppedIn (now (cells .entry)) (r .clock) counts (r .answer) ≡ refusedModel (engineIn (now (cells .entry)) clock counts) WrongRow) ⌝ }
-{
-    let answer = refuse(cells, Verdict::WrongRow);
-    Timed { clock, answer }
-}
-
-// A call on timers.
-fn timed_call(cells: &mut Cells, clock: Clock, counts: Counts, call: Call) -> Timed
-    ensures { λ r. ⌜ steppedIn (now (cells .exit)) (r .clock) counts (r .answer) ≡ timedModel (engineIn (now (cells .entry)) clock counts) call ⌝ }
-{
-    match call {
-        Call::Start => not_timed(cells, clock),
-        Call::CreateThread(_) => not_timed(cells, clock),
-        Call::CreateMutex(_) => not_timed(cells, clock),
-        Call::CreateCondition => not_timed(cells, clock),
-        Call::CreateTimer => not_timed(cells, clock),
-        Call::Acquire(_) => not_timed(cells, clock),
-        Call::Release(_) => not_timed(cells, clock),
-        Call::Wait(_, _) => not_timed(cells, clock),
-        Call::Signal(_) => not_timed(cells, clock),
-        Call::Broadcast(_) => not_timed(cells, clock),
-        Call::StartTimer(id, c, kind, v) => start_timer(cells, clock, counts, id, c, kind, v),
-        Call::StopTimer(id) => stop_timer(cells, clock, counts, id),
-        Call::Tick => tick(cells, clock, counts),
-    }
-}
-
-// A row that is a call on timers.
-pub fn timed_row(cells: &mut Cells, clock: Clock, counts: Counts, decoded: Decoded) -> Timed
-    ensures { λ r. ⌜ steppedIn (now (cells .exit)) (r .clock) counts (r .answer) ≡ timedRow (engineIn (now (cells .entry)) clock counts) decoded ⌝ }
-{
-    let Decoded::Taken(call) = decoded else {
-        return not_timed(cells, clock);
-    };
-    timed_call(cells, clock, counts, call)
+    step(cells, clock, wheel, counts, call)
 }

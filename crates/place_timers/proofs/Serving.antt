@@ -18,7 +18,7 @@ use Rattle.value_engine.specs.declared.Timer.{Timer}
 use Rattle.value_engine.specs.Engines.{noTimer, stoppedRow, serveModel}
 use Rattle.value_engine.proofs.Serving.{onFrom, serve-on, serve-none, serve-full}
 use Rattle.place_calls.specs.declared.Counts.{Counts}
-use Rattle.place_calls.specs.Standing.{engineIn}
+use Rattle.place_calls.specs.Standing.{Timing, engineIn}
 
 -- ---- the ids that are left
 
@@ -43,37 +43,33 @@ goes-on x y z ids ids′ n i few-so low is-first others served whole =
 
 -- ---- a timer served
 
--- the array k with timers ts and wheel w, at a tick count, and the row of timer i, which has signalled with the array k′ after it
-module _ (k k′ : List ℕ) (ts : List Timer) (w : Wheel) (count i left : ℕ) (row : Timer) (low : i < 32) (read : row ≡ getD ts i noTimer)
+-- timers, their wheel and the tick count as one
+abbrev timed : List Timer → Wheel → ℕ → Timing
+timed rows w n = record { timers = rows; wheel = w; count = n }
+
+-- the engine of a scheduler, of these and of counts
+abbrev engineWith : Counts → Scheduler → Timing → Engine
+engineWith n s t = record {
+  scheduler = s;
+  timers = t .timers;
+  wheel = t .wheel;
+  started = n .started;
+  threads = n .threads;
+  mutexes = n .mutexes;
+  conditions = n .conditions;
+  timercount = n .timercount;
+  count = t .count;
+}
+
+-- the array k with timers, wheel and tick count beside it, and the row of timer i, which has signalled with the array k′ after it
+module _ (k k′ : List ℕ) (t : Timing) (i left : ℕ) (row : Timer) (read : row ≡ getD (t .timers) (i % 32) noTimer)
     (signalled : signalledIn k′ left ≡ signalModel (schedulerIn k) (row .condition)) (counts : Counts) where
-  -- the engine before
-  abbrev before-it : Engine
-  before-it = engineIn k (record { timers = ts; wheel = w; count = count }) counts
-
-  -- the engine of these parts
-  abbrev engineWith : Scheduler → List Timer → Wheel → Engine
-  engineWith s rows v = record {
-    scheduler = s;
-    timers = rows;
-    wheel = v;
-    started = counts .started;
-    threads = counts .threads;
-    mutexes = counts .mutexes;
-    conditions = counts .conditions;
-    timercount = counts .timercount;
-    count = count;
-  }
-
-  -- the id is in the table
-  in-table : i % 32 ≡ i
-  in-table = omega (arith, low)
-
   -- a periodic one
-  pub serves-periodic : (w′ : Wheel) → row .state ≡ 2 → w′ ≡ startedIn w i (row .length .0) → engineIn k′ (record { timers = ts; wheel = w′; count = count }) counts ≡ serveModel before-it i
+  pub serves-periodic : (w : Wheel) → row .state ≡ 2 → w ≡ startedIn (t .wheel) i (row .length .0) → engineIn k′ (timed (t .timers) w (t .count)) counts ≡ serveModel (engineIn k t counts) i
   unfolding serveModel
-  serves-periodic w′ h again = rw (in-table, ← read, eq-eqb (row .state) 2 h) (λ j. engineWith (signalled j .scheduler) ts (again j))
+  serves-periodic w h again = rw (← read, eq-eqb (row .state) 2 h) (λ j. engineWith counts (signalled j .scheduler) (timed (t .timers) (again j) (t .count)))
 
   -- another
-  pub serves-other : (row .state ≡ 2 → ⊥) → engineIn k′ (record { timers = set ts i stoppedRow; wheel = w; count = count }) counts ≡ serveModel before-it i
+  pub serves-other : (rows : List Timer) → (row .state ≡ 2 → ⊥) → rows ≡ set (t .timers) (i % 32) stoppedRow → engineIn k′ (timed rows (t .wheel) (t .count)) counts ≡ serveModel (engineIn k t counts) i
   unfolding serveModel
-  serves-other h = rw (in-table, ← read, ne-eqb (row .state) 2 h) (λ j. engineWith (signalled j .scheduler) (set ts i stoppedRow) w)
+  serves-other rows h stopped = rw (← read, ne-eqb (row .state) 2 h) (λ j. engineWith counts (signalled j .scheduler) (timed (stopped j) (t .wheel) (t .count)))

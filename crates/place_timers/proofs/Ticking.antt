@@ -1,12 +1,11 @@
--- A tick by whether the scheduler has started and a timer is due, on what the wheel's own tick gave.
+-- A tick by whether the scheduler has started, on what the wheel's own tick gave.
 -- Assumes nothing.
-use Prim.Native.Nat.{_+_, _%_, _≤_}
+use Prim.Native.Nat.{_+_, _%_}
 use mathlib.Core.Path.{_≡_, sym, ap, _∙_}
 use mathlib.Core.Bool.{true, false}
-use native.Mathlib.Omega.{arith}
 use Rattle.laws.proofs.Bools.{cond-true, cond-false}
 use Rattle.wheel.specs.declared.Ticked.{Ticked}
-use Rattle.wheel.specs.Promise.{tickedIn, idsOf, first}
+use Rattle.wheel.specs.Promise.{tickedIn, idsOf}
 use Rattle.calls.specs.declared.Answer.{Answer}
 use Rattle.calls.specs.declared.Verdict.the-variants.{Stopped}
 use Rattle.calls.specs.Answers.{numberOf}
@@ -14,7 +13,6 @@ use Rattle.value_engine.specs.declared.Engine.{Engine}
 use Rattle.value_engine.specs.declared.Effect.{Effect}
 use Rattle.value_engine.specs.declared.Stepped.{Stepped}
 use Rattle.value_engine.specs.Engines.{refusedModel, answeredModel, serveAllModel, turned, tickModel}
-use Rattle.value_engine.proofs.Serving.{serve-none}
 
 -- the engine x before the tick
 module _ (x : Engine) where
@@ -49,7 +47,3 @@ module _ (x : Engine) where
     tick-served e served told =
         let whole : e ≡ all = served ∙ ap (λ (g : Ticked). serveAllModel 32 0 (turnedBy g) (idsOf (g .due))) ticked in
         told ∙ ap (λ (f : Effect). answeredModel (f .engine) (f .given) true) whole ∙ sym (cond-true (x .started) (answeredModel (all .engine) (all .given) true) (refusedModel x Stopped) on)
-
-    -- none came due
-    pub tick-quiet : 32 ≤ first (idsOf (t .due)) → y ≡ answeredModel (turnedBy t) 0 true → y ≡ tickModel x
-    tick-quiet none told = tick-served (record { engine = turnedBy t; given = 0 }) (sym (serve-none (turnedBy t) (idsOf (t .due)) 0 (omega arith) none)) told

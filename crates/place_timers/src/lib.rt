@@ -1,4 +1,4 @@
-// Calls 11 to 13, which change timers and wheel, with the scheduler changed in place.
+// Calls 11 to 13, which change timers and wheel: scheduler, clock and wheel stand in three lent arrays and are changed in place.
 use calls::Answer;
 use calls::Kind;
 use calls::Verdict;
@@ -7,10 +7,14 @@ use limits::NOTHING;
 use limits::PERIODIC;
 use limits::TICK_COUNTS;
 use limits::TIMERS;
-use place_calls::Clock;
 use place_calls::Counts;
 use place_calls::finish;
 use place_calls::refuse;
+use place_clock::ClockWords;
+use place_clock::count_at;
+use place_clock::put_count;
+use place_clock::put_timer;
+use place_clock::timer_at;
 use place_effects::signal;
 use place_tables::Cells;
 use refusals::first_of;
@@ -27,159 +31,129 @@ use value_engine::Timer;
 use value_engine::length_kept;
 use value_engine::state_of;
 use wheel::Due;
+use wheel::WheelWords;
 ghost use Prim.Native.Nat.{ℕ};
 ghost use mathlib.Core.Path.{_≡_};
 ghost use mathlib.Core.List.{List};
 ghost use Rattle.wheel.specs.Promise.{idsOf};
-ghost use Rattle.value_engine.specs.Engines.{startTimerModel, timerStopped, stopTimerModel, serveAllModel, tickModel};
+ghost use Rattle.value_engine.specs.Engines.{startTimerModel, timerStopped, stopTimerModel, serveModel, serveAllModel, tickModel};
 ghost use Rattle.place_calls.specs.declared.Counts.{Counts};
-ghost use Rattle.place_calls.specs.Standing.{engineIn, steppedIn};
-ghost use Rattle.place_timers.specs.Effects.{effectIn};
-
-// The timers, wheel and tick count that follow, and the answer.
-pub struct Timed {
-    pub clock: Clock,
-    pub answer: Answer,
-}
-
-// The timers, wheel and tick count that follow, and what is given.
-struct Effect {
-    clock: Clock,
-    given: u16,
-}
+ghost use Rattle.place_timers.specs.Arrays.{engineOn, steppedOn, effectOn};
 
 // Call 11.
 pub fn start_timer(
     cells: &mut Cells,
-    mut clock: Clock,
+    clock: &mut ClockWords,
+    wheel: &mut WheelWords,
     counts: Counts,
     id: u8,
     c: u8,
     kind: Kind,
     v: Micros,
-) -> Timed
-    ensures { λ r. ⌜ steppedIn (now (cells .exit)) (r .clock) counts (r .answer) ≡ startTimerModel (engineIn (now (cells .entry)) clock counts) id c kind v ⌝ }
+) -> Answer
+    ensures { λ r. ⌜ steppedOn (now (cells .exit)) (now (clock .exit)) (now (wheel .exit)) counts r ≡ startTimerModel (engineOn (now (cells .entry)) (now (clock .entry)) (now (wheel .entry)) counts) id c kind v ⌝ }
 {
-    let i = (id % TIMERS) as usize;
-    let row = clock.timers[i];
+    let row = timer_at(clock, id);
     let ids = ids_verdict(counts.started, counts.timercount, id, counts.conditions, c);
     let Length::Whole(first) = ticks_of(v) else {
         let verdict = first_of(ids, Verdict::OutOfRange);
-        let answer = refuse(cells, verdict);
-        return Timed { clock, answer };
+        return refuse(cells, verdict);
     };
     let stopped = start_timer_verdict(row.state);
     let verdict = first_of(ids, stopped);
     let n = number(verdict);
     if n != 0 {
-        let answer = refuse(cells, verdict);
-        return Timed { clock, answer };
+        return refuse(cells, verdict);
     }
     let state = state_of(kind);
     let length = length_kept(kind, first);
-    clock.timers[i] = Timer {
+    let set = Timer {
         state,
         condition: c,
         length,
     };
-    let wheel = clock.wheel;
-    let after = wheel.start(id, first);
-    clock.wheel = after;
-    let answer = finish(cells, counts, NOTHING, false);
-    Timed { clock, answer }
+    put_timer(clock, id, set);
+    wheel::start(wheel, id, first);
+    finish(cells, counts, NOTHING, false)
 }
 
 // Timer id stopped, and the ticks that were left to it.
-fn timer_stopped(mut clock: Clock, id: u8) -> Effect
-    ensures { λ r. ⌜ ((cells : List ℕ) (counts : Counts) → effectIn cells (r .clock) counts (r .given) ≡ timerStopped (engineIn cells clock counts) id) ⌝ }
+fn timer_stopped(clock: &mut ClockWords, wheel: &mut WheelWords, id: u8) -> u16
+    ensures { λ r. ⌜ ((cells : List ℕ) (counts : Counts) → effectOn cells (now (clock .exit)) (now (wheel .exit)) counts r ≡ timerStopped (engineOn cells (now (clock .entry)) (now (wheel .entry)) counts) id) ⌝ }
 {
-    let i = (id % TIMERS) as usize;
-    clock.timers[i] = STOPPED_TIMER;
-    let wheel = clock.wheel;
-    let after = wheel.stop(id);
-    let left = wheel.left(id);
-    clock.wheel = after;
-    let given = count_of(left);
-    Effect { clock, given }
+    let left = wheel::left(wheel, id);
+    put_timer(clock, id, STOPPED_TIMER);
+    wheel::stop(wheel, id);
+    count_of(left)
 }
 
 // Call 12.
-pub fn stop_timer(cells: &mut Cells, clock: Clock, counts: Counts, id: u8) -> Timed
-    ensures { λ r. ⌜ steppedIn (now (cells .exit)) (r .clock) counts (r .answer) ≡ stopTimerModel (engineIn (now (cells .entry)) clock counts) id ⌝ }
+pub fn stop_timer(
+    cells: &mut Cells,
+    clock: &mut ClockWords,
+    wheel: &mut WheelWords,
+    counts: Counts,
+    id: u8,
+) -> Answer
+    ensures { λ r. ⌜ steppedOn (now (cells .exit)) (now (clock .exit)) (now (wheel .exit)) counts r ≡ stopTimerModel (engineOn (now (cells .entry)) (now (clock .entry)) (now (wheel .entry)) counts) id ⌝ }
 {
-    let i = (id % TIMERS) as usize;
-    let row = clock.timers[i];
+    let row = timer_at(clock, id);
     let ids = id_verdict(counts.started, counts.timercount, id);
     let state = stop_verdict(row.state);
     let verdict = first_of(ids, state);
     let n = number(verdict);
     if n != 0 {
-        let answer = refuse(cells, verdict);
-        return Timed { clock, answer };
+        return refuse(cells, verdict);
     }
-    let effect = timer_stopped(clock, id);
-    let later = effect.clock;
-    let answer = finish(cells, counts, effect.given, false);
-    Timed {
-        clock: later,
-        answer,
-    }
+    let given = timer_stopped(clock, wheel, id);
+    finish(cells, counts, given, false)
 }
 
-// The timers that have come due are served in order of id: each signals its condition variable, a periodic one is hung again, a one-shot is stopped.
-fn serve_all(cells: &mut Cells, clock: Clock, due: Due) -> Effect
-    ensures { λ r. ⌜ ((counts : Counts) → effectIn (now (cells .exit)) (r .clock) counts (r .given) ≡ serveAllModel 32 0 (engineIn (now (cells .entry)) clock counts) (idsOf due)) ⌝ }
+// Timer id has come due: it signals its condition variable; a periodic one is hung again, a one-shot is stopped.
+fn serve(cells: &mut Cells, clock: &mut ClockWords, wheel: &mut WheelWords, id: u8)
+    ensures { λ _. ⌜ ((counts : Counts) → engineOn (now (cells .exit)) (now (clock .exit)) (now (wheel .exit)) counts ≡ serveModel (engineOn (now (cells .entry)) (now (clock .entry)) (now (wheel .entry)) counts) id) ⌝ }
 {
-    let mut timers = clock.timers;
-    let mut wheel = clock.wheel;
+    let row = timer_at(clock, id);
+    signal(cells, row.condition);
+    if row.state == PERIODIC {
+        wheel::start(wheel, id, row.length);
+        return;
+    }
+    put_timer(clock, id, STOPPED_TIMER);
+}
+
+// The timers that have come due are served in order of id. How many there were.
+fn serve_all(cells: &mut Cells, clock: &mut ClockWords, wheel: &mut WheelWords, due: Due) -> u16
+    ensures { λ r. ⌜ ((counts : Counts) → effectOn (now (cells .exit)) (now (clock .exit)) (now (wheel .exit)) counts r ≡ serveAllModel 32 0 (engineOn (now (cells .entry)) (now (clock .entry)) (now (wheel .entry)) counts) (idsOf due)) ⌝ }
+{
     let mut left = due;
     let mut id = due.first();
     let mut given: u16 = 0;
     while id < TIMERS {
-        let i = id as usize;
-        let row = timers[i];
-        signal(cells, row.condition);
-        if row.state == PERIODIC {
-            wheel = wheel.start(id, row.length);
-        } else {
-            timers[i] = STOPPED_TIMER;
-        }
+        serve(cells, clock, wheel, id);
         left = left.rest();
         id = left.first();
         given += 1;
     }
-    let clock = Clock {
-        timers,
-        wheel,
-        count: clock.count,
-    };
-    Effect { clock, given }
+    given
 }
 
 // Call 13.
-pub fn tick(cells: &mut Cells, mut clock: Clock, counts: Counts) -> Timed
-    ensures { λ r. ⌜ steppedIn (now (cells .exit)) (r .clock) counts (r .answer) ≡ tickModel (engineIn (now (cells .entry)) clock counts) ⌝ }
+pub fn tick(
+    cells: &mut Cells,
+    clock: &mut ClockWords,
+    wheel: &mut WheelWords,
+    counts: Counts,
+) -> Answer
+    ensures { λ r. ⌜ steppedOn (now (cells .exit)) (now (clock .exit)) (now (wheel .exit)) counts r ≡ tickModel (engineOn (now (cells .entry)) (now (clock .entry)) (now (wheel .entry)) counts) ⌝ }
 {
     if !counts.started {
-        let answer = refuse(cells, Verdict::Stopped);
-        return Timed { clock, answer };
+        return refuse(cells, Verdict::Stopped);
     }
-    let wheel = clock.wheel;
-    let ticked = wheel.tick();
-    let after = ticked.wheel;
-    let due = ticked.due;
-    clock.wheel = after;
-    clock.count = ((clock.count as u64 + 1) % TICK_COUNTS) as u32;
-    let first = due.first();
-    if TIMERS <= first {
-        let answer = finish(cells, counts, 0, true);
-        return Timed { clock, answer };
-    }
-    let served = serve_all(cells, clock, due);
-    let later = served.clock;
-    let answer = finish(cells, counts, served.given, true);
-    Timed {
-        clock: later,
-        answer,
-    }
+    let turned = wheel::tick(wheel);
+    let due = turned.due;
+    let count = count_at(clock);
+    put_count(clock, ((count as u64 + 1) % TICK_COUNTS) as u32);
+    let given = serve_all(cells, clock, wheel, due);
+    finish(cells, counts, given, true)
 }

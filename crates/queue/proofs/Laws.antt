@@ -9,8 +9,9 @@ use mathlib.Core.List.{List, [], _∷_, _++_}
 use native.Mathlib.Omega.{arith}
 use lib.ListN.{length, getD, set}
 use lib.Seq.{getD-set-same, set-getD}
-use lib.Dec.{ltb}
-use borrow.Author.Tests.{lt-ltb}
+use lib.Dec.{eqb, ltb}
+use borrow.Author.Tests.{lt-ltb, eq-eqb, ne-eqb}
+use Rattle.laws.specs.Lists.{tabulate}
 use Rattle.laws.specs.Counting.{at, firstOr, lastOr, rest, occupied, one, count, counts}
 use Rattle.laws.proofs.Lists.{by-equal, by-below, one-same, one-other, count-append, counts-set, count-at, last-back, last-in, getD-tabulate, tabulate-same, set-tabulate}
 use Rattle.queue.specs.Linking.{linked, backModel, frontModel, leaveModel}
@@ -21,6 +22,15 @@ use Rattle.queue.proofs.Linking.{after-first, after-rest, after-back-ot
 pub link-read : (ls : List (List ℕ)) (t : ℕ) → t < 32 → getD (linksOf ls .next) t 0 ≡ linkOf t ls
 unfolding linksOf
 link-read ls t h = getD-tabulate 32 (λ u. linkOf u ls) t 0 h
+
+-- two entries of a table change
+set-two : (n : ℕ) (f g : ℕ → ℕ) (v t : ℕ) → v ≢ t → ((u : ℕ) → u ≢ v → u ≢ t → f u ≡ g u) → set (set (tabulate n f) v (g v)) t (g t) ≡ tabulate n g
+set-two n f g v t k h =
+    let between : ℕ → ℕ = λ u. cond (eqb u t) (f t) (g u) in
+    let at-v : g v ≡ between v = rw (ne-eqb v t k) in
+    ap (λ x. set x t (g t)) (ap (set (tabulate n f) v) at-v
+    ∙ set-tabulate n f between v (λ u m. by-equal u t (λ y. rw (y, eq-eqb t t refl)) (λ y. rw (ne-eqb u t y) (h u m y))))
+    ∙ set-tabulate n between g t (λ u m. rw (ne-eqb u t m))
 
 -- ---- the list l at slot s
 
@@ -57,13 +67,13 @@ module _ (ls : List (List ℕ)) (s : ℕ) (l : List ℕ) (here : at ls s ≡ l) 
         }
 
     -- a thread of the new list is linked to what follows it there
-    link-new : (u : ℕ) (m : List ℕ) → Fresh (set ls s m) → 0 < count u m → linkOf u (set ls s m) ≡ after u m 255
+    pub link-new : (u : ℕ) (m : List ℕ) → Fresh (set ls s m) → 0 < count u m → linkOf u (set ls s m) ≡ after u m 255
     link-new u m f h =
         let e : at (set ls s m) s ≡ m = getD-set-same ls s m [] inside in
         link-at u (set ls s m) s (f .once u) (rw e h) ∙ ap (λ x. after u x 255) e
 
     -- a thread that is followed by the same as before keeps its link
-    link-old : (u : ℕ) (m : List ℕ) → ((d : ℕ) → after u m d ≡ after u l d) → linkOf u ls ≡ linkOf u (set ls s m)
+    pub link-old : (u : ℕ) (m : List ℕ) → ((d : ℕ) → after u m d ≡ after u l d) → linkOf u ls ≡ linkOf u (set ls s m)
     link-old u m h = sym (link-set u ls s m (λ d. h d ∙ ap (λ x. after u x d) (sym here)))
 
     -- no link changes
@@ -76,6 +86,12 @@ module _ (ls : List (List ℕ)) (s : ℕ) (l : List ℕ) (here : at ls s ≡ l) 
         → set (linksOf ls .next) v w ≡ linksOf (set ls s m) .next
     unfolding linksOf
     one-link m v w e h = rw (← e) (set-tabulate 32 (λ t. linkOf t ls) (λ t. linkOf t (set ls s m)) v h)
+
+    -- the links of v and t alone change, to w and to none
+    pub two-links : (m : List ℕ) (v w t : ℕ) → v ≢ t → linkOf v (set ls s m) ≡ w → linkOf t (set ls s m) ≡ 255
+        → ((u : ℕ) → u ≢ v → u ≢ t → linkOf u ls ≡ linkOf u (set ls s m)) → set (set (linksOf ls .next) v w) t 255 ≡ linksOf (set ls s m) .next
+    unfolding linksOf
+    two-links m v w t n e z h = rw (← e, ← z) (set-two 32 (λ u. linkOf u ls) (λ u. linkOf u (set ls s m)) v t n h)
 
     -- ---- t arrives from nowhere
 

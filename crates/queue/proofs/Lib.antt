@@ -4,3 +4,4 @@ pub mod Linking
 pub mod Laws
 pub mod Sets
 pub mod Canon
+pub mod Removing

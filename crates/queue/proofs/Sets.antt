@@ -8,13 +8,14 @@ use mathlib.Core.List.{List, [], _∷_, _++_, flatten}
 use native.Mathlib.Omega.{arith}
 use lib.ListN.{length, set, List·getD-map}
 use lib.Dec.{ltb}
-use Rattle.laws.specs.Counting.{at, rest, occupied, counts, Wide}
+use Rattle.laws.specs.Counting.{at, rest, occupied, count, counts, Wide}
 use Rattle.laws.proofs.Bools.{no-way}
 use Rattle.laws.proofs.Lists.{by-equal, by-below, count-at, counts-part, map-set, getD-flatten, flatten-set, below-flatten}
-use Rattle.queue.specs.Linking.{backModel, frontModel, leaveModel, levelModel, withLevelModel, hasFirst, highestBelow, highestModel}
+use Rattle.queue.specs.Linking.{backModel, frontModel, leaveModel, removeModel, levelModel, withLevelModel, hasFirst, highestBelow, highestModel}
 use Rattle.queue.specs.Stands.{Fresh, endsOf, linksOf, linkedOf, linkedIn, queuesOf, highestList, IsHighest}
 use Rattle.queue.specs.declared.Queues.{Queues}
 use Rattle.queue.proofs.Laws.{back-at, front-at, leave-at, occupied-of}
+use Rattle.queue.proofs.Removing.{remove-out, remove-of}
 
 -- ---- one set
 
@@ -113,3 +114,13 @@ module _ (w : ℕ) (xss : List (List (List ℕ))) (i p : ℕ) (wide : Wide w xss
   -- a leave takes the first from that list, and no other list changes
   pub leave-in : leaveModel (linksOf (flatten xss)) (endsOf (at (at xss i) p)) ≡ linkedIn xss i p (rest (at (at xss i) p))
   leave-in = leave-at (flatten xss) (w * i + p) (at (at xss i) p) slot fresh bound ∙ placed (rest (at (at xss i) p))
+
+  -- t leaves that list from wherever it stands there, and no other list changes
+  pub remove-in : (t : ℕ) (a b : List ℕ) → at (at xss i) p ≡ a ++ (t ∷ b) → removeModel (linksOf (flatten xss)) (endsOf (at (at xss i) p)) t ≡ linkedIn xss i p (a ++ b)
+  remove-in t a b here =
+      ap (λ l. removeModel (linksOf (flatten xss)) (endsOf l) t) (sym slot)
+      ∙ remove-of (flatten xss) (w * i + p) fresh bound t a b (slot ∙ here) ∙ placed (a ++ b)
+
+  -- where it does not stand there, none does
+  pub remove-none-in : (t : ℕ) → count t (at (at xss i) p) ≡ 0 → removeModel (linksOf (flatten xss)) (endsOf (at (at xss i) p)) t ≡ linkedIn xss i p (at (at xss i) p)
+  remove-none-in t out = remove-out (flatten xss) (w * i + p) fresh t (at (at xss i) p) slot out ∙ placed (at (at xss i) p)

@@ -6,7 +6,7 @@ use Prim.Native.Nat.{ℕ, zero, suc}
 use mathlib.Core.Bool.{Bool, cond}
 use mathlib.Core.List.{List, [], _∷_}
 use lib.ListN.{getD, set, replicate}
-use lib.Dec.{ltb}
+use lib.Dec.{eqb, ltb}
 use Rattle.queue.specs.declared.Queue.{Queue}
 use Rattle.queue.specs.declared.Links.{Links}
 use Rattle.queue.specs.declared.Linked.{Linked}
@@ -49,6 +49,25 @@ leaveModel k q =
     (cond (ltb (getD (k .next) (q .first) 0) 32)
     (linked (set (k .next) (q .first) 255) (getD (k .next) (q .first) 0) (q .last))
     (linked (set (k .next) (q .first) 255) 255 255))
+    (linked (k .next) (q .first) (q .last))
+
+-- the thread that t follows on the way from p along at most n links, or 255
+unfoldable pub aheadModel : List ℕ → ℕ → ℕ → ℕ → ℕ
+aheadModel next zero p t = 255
+aheadModel next (suc n) p t = cond (ltb p 32) (cond (eqb (getD next p 0) t) p (aheadModel next n (getD next p 0) t)) 255
+
+-- t leaves from behind v and keeps no link: v is linked to the one that t was linked to, and is the last now where t was; without such a v nothing changes
+unfoldable pub removeBehind : Links → Queue → ℕ → ℕ → Linked
+removeBehind k q v t =
+    cond (ltb v 32)
+    (linked (set (set (k .next) v (getD (k .next) t 0)) t 255) (q .first) (cond (eqb (q .last) t) v (q .last)))
+    (linked (k .next) (q .first) (q .last))
+
+-- t leaves from wherever it stands, as the first or from behind the one that it follows; where it does not stand in the queue nothing changes
+unfoldable pub removeModel : Links → Queue → ℕ → Linked
+removeModel k q t =
+    cond (ltb t 32)
+    (cond (eqb (q .first) t) (leaveModel k q) (removeBehind k q (aheadModel (k .next) 32 (q .first) t) t))
     (linked (k .next) (q .first) (q .last))
 
 -- the threads met from t along the links, at most n

@@ -8,7 +8,7 @@ use limits::PRIORITIES;
 use limits::THREAD_ROWS;
 use limits::THREADS;
 ghost use mathlib.Core.Path.{_≡_};
-ghost use Rattle.queue.specs.Linking.{emptyQueue, emptyLinks, emptyQueues, backModel, frontModel, leaveModel, levelModel, withLevelModel, highestModel};
+ghost use Rattle.queue.specs.Linking.{emptyQueue, emptyLinks, emptyQueues, backModel, frontModel, leaveModel, aheadModel, removeModel, levelModel, withLevelModel, highestModel};
 
 // What follows each thread in its queue.
 pub type Next = [u8; THREAD_ROWS];
@@ -113,6 +113,55 @@ impl Links {
             return Linked { links: self, queue };
         }
         let queue = Queue::empty();
+        Linked { links: self, queue }
+    }
+
+    // The thread that t follows on the way from the first along at most 32 links, 255 for none.
+    fn ahead(self, first: u8, t: u8) -> u8
+        ensures { λ r. ⌜ r ≡ aheadModel (self .next) 32 first t ⌝ }
+    {
+        let mut met = first;
+        let mut passed: u8 = 0;
+        while passed < THREADS {
+            if THREADS <= met {
+                return NONE;
+            }
+            let i = met as usize;
+            let after = self.next[i];
+            if after == t {
+                return met;
+            }
+            met = after;
+            passed += 1;
+        }
+        NONE
+    }
+
+    // Thread t leaves from wherever it stands; where it does not stand in the queue nothing changes.
+    pub fn remove(mut self, queue: Queue, t: u8) -> Linked
+        ensures { λ r. ⌜ r ≡ removeModel self queue t ⌝ }
+    {
+        if THREADS <= t {
+            return Linked { links: self, queue };
+        }
+        let first = queue.first;
+        let last = queue.last;
+        if first == t {
+            return self.leave(queue);
+        }
+        let ahead = self.ahead(first, t);
+        if THREADS <= ahead {
+            return Linked { links: self, queue };
+        }
+        let i = ahead as usize;
+        let j = t as usize;
+        let after = self.next[j];
+        self.next[i] = after;
+        self.next[j] = NONE;
+        if last == t {
+            let queue = Queue { first, last: ahead };
+            return Linked { links: self, queue };
+        }
         Linked { links: self, queue }
     }
 }

@@ -1,10 +1,10 @@
 // The saved record: a kernel loaded from bytes, and a kernel saved into a lent buffer.
 use kernel::Kernel;
 use page_building::build;
-use page_describing::describe;
 use record_reading::open;
 use record_writing::total;
 use record_writing::write;
+use sound_engine::judge;
 use sound_page::sound;
 ghost use mathlib.Core.Path.{_≡_};
 ghost use Rattle.record_bytes.specs.Loading.{load};
@@ -55,15 +55,15 @@ pub fn load(bytes: &[u8]) -> Loaded
 pub fn save(kernel: Kernel, buffer: &mut [u8]) -> Saved
     ensures { λ r. ⌜ Saves kernel (now (buffer .entry)) r (now (buffer .exit)) ⌝ }
 {
-    let right = kernel.is_sound();
-    if !right {
+    let engine = kernel.engine;
+    let judged = judge(engine);
+    if !judged.sound {
         return Saved {
             answer: 1,
             length: 0,
         };
     }
-    let engine = kernel.engine;
-    let page = describe(engine);
+    let page = judged.page;
     let length = total(page);
     if buffer.len() < length as usize {
         return Saved {

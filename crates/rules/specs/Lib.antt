@@ -1,4 +1,5 @@
 pub mod Queues
+pub mod Leaving
 pub mod State
 pub mod Next
 pub mod Effects

@@ -3,6 +3,7 @@ pub mod Fits
 pub mod Rows
 pub mod Facts
 pub mod Moves
+pub mod Leaving
 pub mod Next
 pub mod Calls
 pub mod Creating

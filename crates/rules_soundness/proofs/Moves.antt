@@ -1,4 +1,4 @@
--- How the queues are kept: when the first of a place leaves, when a thread that stands nowhere arrives, when a mutex changes hands between
+-- How the queues are kept: when one leaves its place, as the first there does, when a thread that stands nowhere arrives, when a mutex changes hands between
 -- threads that are in no queue.
 -- Assumes nothing.
 use Prim.Native.Nat.{ℕ, _<_, _≤_}
@@ -45,6 +45,37 @@ module _ {k : Rows} {s : Sets} (q : Queued k s) (k′ : Rows) (w : Where) (r : R
 
 -- ---- leaving
 
+module _ {k : Rows} {s : Sets} (q : Queued k s) (w : Where) (r : Real k w) (t : ℕ) (stood : at k w t ≡ true) where
+  -- who stands at w exists
+  stood-exists : t < length (k .threads)
+  stood-exists = standing-exists k w t (not-running (length (k .mutexes)) (length (k .ties)) w r) stood
+
+  -- it stands nowhere else
+  stood-stands : thread k t .stands ≡ w
+  stood-stands = same-true (thread k t .stands) w (unfold at in stood)
+
+  -- who stands where once it stands nowhere: the others
+  pub left : (v : Where) → Real k v → (u : ℕ) → at (stand k t running) v u ≡ (at k v u && not (eqb u t))
+  left v z u = at-stand k t running v u stood-exists ∙ by-cases (eqb u t)
+      (λ y. rw (y, not-running (length (k .mutexes)) (length (k .ties)) v z) (sym (and-false (at k v u))))
+      (λ y. rw y (sym (and-true (at k v u))))
+
+  -- the queues are kept with any set at w that fits without it
+  pub queued-gone : (x : QueueSet) → Fits (at (stand k t running) w) (priority k) Apart x → Queued (stand k t running) (putSet s w x)
+  queued-gone x gone = queued-put q (stand k t running) w r x (unfold stand in refl) (unfold stand in refl)
+      (fits-frame gone (λ u. refl) (λ u z. prio u) (λ u v a b z. z)) others
+    where
+      prio : (u : ℕ) → priority (stand k t running) u ≡ priority k u
+      prio u = priority-stand k t running u stood-exists
+
+      others : (v : Where) → Real k v → same w v ≡ false → Fits (at k v) (priority k) Apart (setAt s v) → Fits (at (stand k t running) v) (priority (stand k t running)) Apart (setAt s v)
+      others v z n f = fits-frame f (λ u. left v z u ∙ by-cases (eqb u t)
+          (λ y. rw (y, and-false (at k v u), eqb-true u t y) (sym (away v n)))
+          (λ y. rw (y, and-true (at k v u)))) (λ u z. prio u) (λ u v a b z. z)
+        where
+          away : (v : Where) → same w v ≡ false → at k v t ≡ false
+          away v n = unfold at in (rw stood-stands n)
+
 module _ {k : Rows} {s : Sets} (q : Queued k s) (w : Where) (r : Real k w) (p t : ℕ) (e : first (setAt s w) ≡ somebody p t) where
   is-first : IsFirst (at k w) (priority k) Apart (somebody p t)
   is-first = subst (IsFirst (at k w) (priority k) Apart) e (fits-first (q .fits w r))
@@ -54,10 +85,10 @@ module _ {k : Rows} {s : Sets} (q : Queued k s) (w : Where) (r : Real k w) (p t 
   first-at = is-first .0
 
   pub first-stands : thread k t .stands ≡ w
-  first-stands = same-true (thread k t .stands) w (unfold at in first-at)
+  first-stands = stood-stands q w r t first-at
 
   pub first-exists : t < length (k .threads)
-  first-exists = standing-exists k w t (not-running (length (k .mutexes)) (length (k .ties)) w r) first-at
+  first-exists = stood-exists q w r t first-at
 
   pub first-priority : priority k t ≡ p
   first-priority = is-first .1
@@ -67,28 +98,8 @@ module _ {k : Rows} {s : Sets} (q : Queued k s) (w : Where) (r : Real k w) (p t 
 
   -- it leaves its queue and stands nowhere
   pub queued-leave : Queued (stand k t running) (putSet s w (firstLeaves (setAt s w) p))
-  queued-leave = queued-put q (stand k t running) w r (firstLeaves (setAt s w) p) (unfold stand in refl) (unfold stand in refl) gone others
-    where
-      left : (v : Where) → Real k v → (u : ℕ) → at (stand k t running) v u ≡ (at k v u && not (eqb u t))
-      left v z u = at-stand k t running v u first-exists ∙ by-cases (eqb u t)
-          (λ y. rw (y, not-running (length (k .mutexes)) (length (k .ties)) v z) (sym (and-false (at k v u))))
-          (λ y. rw y (sym (and-true (at k v u))))
-
-      prio : (u : ℕ) → priority (stand k t running) u ≡ priority k u
-      prio u = priority-stand k t running u first-exists
-
-      gone : Fits (at (stand k t running) w) (priority (stand k t running)) Apart (firstLeaves (setAt s w) p)
-      gone = fits-frame
-          (fits-leave (q .fits w r) (λ u z. z refl) {at′ = at (stand k t running) w} p t (tail (queue (setAt s w) p)) (first-queue 16 (setAt s w) p t e .0) (first-queue 16 (setAt s w) p t e .1) (left w r))
-          (λ u. refl) (λ u z. prio u) (λ u v a b z. z)
-
-      others : (v : Where) → Real k v → same w v ≡ false → Fits (at k v) (priority k) Apart (setAt s v) → Fits (at (stand k t running) v) (priority (stand k t running)) Apart (setAt s v)
-      others v z n f = fits-frame f (λ u. left v z u ∙ by-cases (eqb u t)
-          (λ y. rw (y, and-false (at k v u), eqb-true u t y) (sym (away v n)))
-          (λ y. rw (y, and-true (at k v u)))) (λ u z. prio u) (λ u v a b z. z)
-        where
-          away : (v : Where) → same w v ≡ false → at k v t ≡ false
-          away v n = unfold at in (rw first-stands n)
+  queued-leave = queued-gone q w r t first-at (firstLeaves (setAt s w) p)
+      (fits-leave (q .fits w r) (λ u z. z refl) {at′ = at (stand k t running) w} p t (tail (queue (setAt s w) p)) (first-queue 16 (setAt s w) p t e .0) (first-queue 16 (setAt s w) p t e .1) (left q w r t first-at w r))
 
 -- nobody is first where nobody stands
 pub nobody-at : {k : Rows} {s : Sets} → Queued k s → (w : Where) → Real k w → first (setAt s w) ≡ nobody → (u : ℕ) → at k w u ≡ false

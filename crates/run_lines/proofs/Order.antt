@@ -13,8 +13,8 @@ use Rattle.value_engine.specs.declared.Engine.{Engine}
 use Rattle.run_rows.specs.Rows.{rowModel}
 use Rattle.run_text.specs.Texts.{lineBytes, laid, collected, usedAfter}
 use Rattle.run_lines.specs.declared.Lines.{Lines}
-use Rattle.run_lines.specs.Inner.{innerAnswers, innerFinal}
-use Rattle.run_lines.specs.Output.{next, numbered, at, addLine, addedTo, oneRow, rowsWritten, rowsLaid}
+use Rattle.run_rows.specs.Many.{innerAnswers, innerFinal, madeOf, afterRows}
+use Rattle.run_lines.specs.Output.{next, numbered, at, addLine, addedTo, rowsWritten, rowsLaid}
 
 -- laid one after the other is laid at once
 pub laid-laid : (o : List ℕ) (used : ℕ) (l m : List ℕ) → used + length l ≤ length o → laid (laid o used l) (used + length l) m ≡ laid o used (l ++ m)
@@ -49,7 +49,7 @@ alike x l l′ u u′ o o′ p q r = λ i. at x (record { last = p i; used = q i
 -- where there is room for the lines of some rows, these are laid after the used part, in order
 pub rows-laid : (rows : List (List ℕ)) (x : Engine) (m : Lines) (o : List ℕ) → m .last < 2 ^ 64 → m .used + length (numbered (m .last) (innerAnswers x rows)) ≤ length o
     → rowsWritten (at x m o) rows ≡ rowsLaid x m rows o
-unfolding rowsWritten rowsLaid numbered innerAnswers innerFinal oneRow
+unfolding afterRows madeOf rowsLaid numbered innerAnswers innerFinal
 rows-laid [] x m o low h =
     alike x (m .last) _ (m .used) _ o _ (omega arith) (sym (add-zero (m .used))) (rw (add-zero (m .used)) (sym (take-append-drop (m .used) o)))
 rows-laid (row ∷ rows) x m o low h =

@@ -1,14 +1,12 @@
 // The lines of rows, laid into a buffer: one line for each row's answer.
 use calls::Answer;
 use calls::ROW;
-use calls::decode;
 use place_step::cells_of;
-use place_step::clock_of;
+use place_step::clock_words;
 use place_step::counts_of;
 use place_step::engine_of;
-use place_step::is_timed;
-use place_step::timed_row;
-use place_step::untimed_row;
+use place_step::step_row;
+use place_step::wheel_words;
 use run_rows::row_at;
 use run_text::collect;
 use run_text::line;
@@ -18,7 +16,8 @@ ghost use mathlib.Core.Path.{_≡_};
 ghost use Prim.Native.Nat.{_≤_};
 ghost use lib.ListN.{length};
 ghost use Rattle.run_text.specs.Texts.{lineBytes};
-ghost use Rattle.run_lines.specs.Output.{next, rowsIn, addLine, addedTo, at, rowsWritten, Room, rowsLaid};
+ghost use Rattle.run_rows.specs.Many.{rowsIn};
+ghost use Rattle.run_lines.specs.Output.{next, addLine, addedTo, at, rowsWritten, Room, rowsLaid};
 
 // Lines that are collected: the number of the last one, and how much of the buffer is used.
 pub struct Lines {
@@ -43,36 +42,27 @@ pub fn add_line(lines: Lines, answer: Answer, output: &mut [u8]) -> Lines
 }
 
 // The lines of the whole rows, in order. What a buffer that is too short gets is promised too; one with 48 bytes for each row gets them all.
-// The scheduler is changed in place; the clock is copied for a call on timers only.
+// The engine stands in lent arrays and is changed in place.
 pub fn answer_rows(engine: Engine, lines: Lines, bytes: &[u8], output: &mut [u8]) -> Answered
     ensures { λ r. ⌜ at (r .engine) (r .lines) (now (output .exit)) ≡ rowsWritten (at engine lines (now (output .entry))) (rowsIn (now (bytes .entry))) ⌝ }
     ensures { λ r. ⌜ (Room lines (now (bytes .entry)) (now (output .entry)) → at (r .engine) (r .lines) (now (output .exit)) ≡ rowsLaid engine lines (rowsIn (now (bytes .entry))) (now (output .entry))) ⌝ }
 {
     let rows = bytes.len() / ROW;
     let mut cells = cells_of(engine);
-    let mut clock = clock_of(engine);
+    let mut clock = clock_words(engine);
+    let mut wheel = wheel_words(engine);
     let mut counts = counts_of(engine);
     let mut made = lines;
     let mut i: usize = 0;
     while i < rows {
         let row = row_at(bytes, i * ROW);
-        let decoded = decode(row);
-        let timed = is_timed(decoded);
-        if timed {
-            let done = timed_row(&mut cells, clock, counts, decoded);
-            let after = done.clock;
-            clock = after;
-            let longer = add_line(made, done.answer, output);
-            made = longer;
-        } else {
-            let done = untimed_row(&mut cells, counts, decoded);
-            counts = done.counts;
-            let longer = add_line(made, done.answer, output);
-            made = longer;
-        }
+        let done = step_row(&mut cells, &mut clock, &mut wheel, counts, row);
+        counts = done.counts;
+        let longer = add_line(made, done.answer, output);
+        made = longer;
         i += 1;
     }
-    let reached = engine_of(&cells, clock, counts);
+    let reached = engine_of(&cells, &clock, &wheel, counts);
     Answered {
         engine: reached,
         lines: made,

@@ -13,17 +13,17 @@ use Rattle.laws.proofs.Bools.{by-cases}
 use Rattle.place_step.specs.Turning.{wrongRowModel}
 use Rattle.run_text.specs.Texts.{lineBytes, laid, collected, usedAfter}
 use Rattle.run_lines.specs.declared.Lines.{Lines}
-use Rattle.run_lines.specs.Inner.{innerFinal}
-use Rattle.run_lines.specs.Output.{next, lastAfter, numbered, rowsIn, Written, addLine, addedTo, Room, rowsLaid}
+use Rattle.run_rows.specs.Many.{rowsIn, innerFinal, Reached}
+use Rattle.run_lines.specs.Output.{next, lastAfter, numbered, Laying, addLine, addedTo, Room, rowsLaid}
 use Rattle.run_lines.proofs.Order.{length-laid, line-laid}
 use Rattle.run_pieces.specs.declared.Run.{Run}
 use Rattle.run_pieces.specs.Pieces.{keptBy, restOf, padded, after, told, opening, linesBy, cutOf, cutBy, fedText, fedRun, closedText, closedRun, Gives}
 use Rattle.run_pieces.proofs.Laying.{opening-fits, first-laid, laid-on, gives-made}
 
 -- the run after some rows, of equal parts
-run-parts : (x : Run) (bytes : List ℕ) (w : Written) (rest : List ℕ) (count : ℕ) → w .engine ≡ innerFinal (x .engine) (rowsIn bytes)
-    → w .lines .last ≡ lastAfter (x .last) (length (rowsIn bytes)) → rest ≡ padded (restOf bytes) → count ≡ length bytes
-    → _≡_ {A = Run} (record { engine = w .engine; last = w .lines .last; opened = true; kept = rest; count = count % 8; refused = x .refused }) (after x bytes)
+run-parts : (x : Run) (bytes : List ℕ) (w : Reached Laying) (rest : List ℕ) (count : ℕ) → w .engine ≡ innerFinal (x .engine) (rowsIn bytes)
+    → w .made .lines .last ≡ lastAfter (x .last) (length (rowsIn bytes)) → rest ≡ padded (restOf bytes) → count ≡ length bytes
+    → _≡_ {A = Run} (record { engine = w .engine; last = w .made .lines .last; opened = true; kept = rest; count = count % 8; refused = x .refused }) (after x bytes)
 run-parts x bytes w rest count e l k n = λ i. record { engine = e i; last = l i; opened = true; kept = k i; count = n i % 8; refused = x .refused }
 
 module _ (x : Run) (o : List ℕ) (used : ℕ) (o′ : List ℕ) (size : length o ≡ 65536) (byte : x .refused < 256)
@@ -60,7 +60,7 @@ module _ (x : Run) (o : List ℕ) (used : ℕ) (o′ : List ℕ) (size : length 
       rw (ne-eqb (x .refused) 0 n, append-nil first) (gives-made (told x) first o (record { run = told x; used = used }) o′ refl used-first laid-first)
 
   -- a run that is fed
-  module _ (goes : x .refused ≡ 0) (piece : List ℕ) (short : length (keptBy x ++ piece) ≤ 8199) (w : Written)
+  module _ (goes : x .refused ≡ 0) (piece : List ℕ) (short : length (keptBy x ++ piece) ≤ 8199) (w : Reached Laying)
       (rows : Room (record { last = x .last; used = used }) (keptBy x ++ piece) o′ → w ≡ rowsLaid (x .engine) (record { last = x .last; used = used }) (rowsIn (keptBy x ++ piece)) o′)
       (rest : List ℕ) (count : ℕ) (keeps : rest ≡ padded (restOf (keptBy x ++ piece))) (counts : count ≡ length (keptBy x ++ piece)) where
     -- there is room
@@ -68,16 +68,16 @@ module _ (x : Run) (o : List ℕ) (used : ℕ) (o′ : List ℕ) (size : length 
     laid-rows = rows (rw (laid-first, length-laid o 0 first (omega (arith, few))) (omega (arith, used-first, few, short)))
 
     pub going-fed : Gives (fedRun x piece) (fedText x piece) o
-        (record { run = record { engine = w .engine; last = w .lines .last; opened = true; kept = rest; count = count % 8; refused = x .refused }; used = w .lines .used }) (w .output)
+        (record { run = record { engine = w .engine; last = w .made .lines .last; opened = true; kept = rest; count = count % 8; refused = x .refused }; used = w .made .lines .used }) (w .made .output)
     unfolding fedRun fedText rowsLaid first
     going-fed =
         let bytes = keptBy x ++ piece in
         let text = linesBy x bytes in
         let e = laid-rows in
-        let run = run-parts x bytes w rest count (ap (λ (v : Written). v .engine) e) (ap (λ (v : Written). v .lines .last) e) keeps counts in
-        let long : w .lines .used ≡ length (first ++ text) = ap (λ (v : Written). v .lines .used) e ∙ ap (λ u. u + length text) used-first ∙ sym (length-append first text) in
-        let output : w .output ≡ laid o 0 (first ++ text) = ap (λ (v : Written). v .output) e ∙ ap₂ (λ b u. laid b u text) laid-first used-first ∙ laid-on o first text (omega (arith, few)) in
-        rw (eq-eqb (x .refused) 0 goes) (gives-made (after x bytes) (first ++ text) o _ (w .output) run long output)
+        let run = run-parts x bytes w rest count (ap (λ (v : Reached Laying). v .engine) e) (ap (λ (v : Reached Laying). v .made .lines .last) e) keeps counts in
+        let long : w .made .lines .used ≡ length (first ++ text) = ap (λ (v : Reached Laying). v .made .lines .used) e ∙ ap (λ u. u + length text) used-first ∙ sym (length-append first text) in
+        let output : w .made .output ≡ laid o 0 (first ++ text) = ap (λ (v : Reached Laying). v .made .output) e ∙ ap₂ (λ b u. laid b u text) laid-first used-first ∙ laid-on o first text (omega (arith, few)) in
+        rw (eq-eqb (x .refused) 0 goes) (gives-made (after x bytes) (first ++ text) o _ (w .made .output) run long output)
 
   -- a run that is closed
   module _ (goes : x .refused ≡ 0) (low : x .last < 2 ^ 64) (m : Lines) (o″ : List ℕ)

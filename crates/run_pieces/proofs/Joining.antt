@@ -11,8 +11,8 @@ use Rattle.record_bytes.specs.Record.{cutRows}
 use Rattle.value_engine.specs.declared.Engine.{Engine}
 use Rattle.run_rows.specs.Rows.{rowModel}
 use Rattle.run_text.specs.Texts.{lineBytes}
-use Rattle.run_lines.specs.Inner.{innerAnswers, innerFinal}
-use Rattle.run_lines.specs.Output.{next, lastAfter, numbered, rowsIn}
+use Rattle.run_rows.specs.Many.{rowsIn, innerAnswers, innerFinal}
+use Rattle.run_lines.specs.Output.{next, lastAfter, numbered}
 use Rattle.run_pieces.specs.declared.Run.{Run}
 use Rattle.run_pieces.specs.Pieces.{keptBy, restOf, padded, after}
 

@@ -25,9 +25,9 @@ use Rattle.run_rows.proofs.Meaning.{wrong-row-steps}
 use Rattle.kernel.specs.declared.Kernel.{Kernel}
 use Rattle.kernel.specs.Kernels.{kernelOf}
 use Rattle.run_text.specs.Texts.{headingBytes, refusalBytes}
-use Rattle.run_lines.specs.Inner.{innerAnswers, innerFinal}
-use Rattle.run_lines.specs.Output.{lastAfter, numbered, rowsIn}
-use Rattle.run_lines.proofs.Inner.{inner-rows-step, rows-keep}
+use Rattle.run_rows.specs.Many.{rowsIn, innerAnswers, innerFinal}
+use Rattle.run_lines.specs.Output.{lastAfter, numbered}
+use Rattle.run_rows.proofs.Inner.{inner-rows-step, rows-keep}
 use Rattle.run_pieces.specs.declared.Run.{Run}
 use Rattle.run_pieces.specs.Whole.{Start, AtBoot, AtRecord, begun, taken, stateAfter, cutAnswer, answersTo, runText, runEnd}
 use Rattle.run_pieces.specs.Pieces.{runAt, keptBy, restOf, after, told, opening, linesBy, cutOf, cutBy, fedText, fedRun, closedText, closedRun, Feeds, EndsAs}

@@ -14,7 +14,8 @@ use Rattle.rules.specs.Step.{after, stepSound, step, stepDecoded, stepRow}
 use Rattle.book.specs.Answers.{answersOf, finalOf}
 use Rattle.record_bytes.specs.Record.{cutRows}
 use Rattle.run_text.specs.Texts.{digitsIn, digits, lineBytes}
-use Rattle.run_lines.specs.Output.{numbered, rowsIn}
+use Rattle.run_rows.specs.Many.{rowsIn}
+use Rattle.run_lines.specs.Output.{numbered}
 use Rattle.run_pieces.specs.declared.Run.{Run}
 use Rattle.run_pieces.specs.Whole.{AtBoot, cutAnswer, answersTo, runText, shownCalls, shownText}
 use Rattle.run_pieces.specs.Pieces.{runAt, Feeds}

@@ -17,8 +17,8 @@ use Rattle.record.specs.declared.Saved.{Saved}
 use Rattle.record.specs.Records.{savedOf, Saves}
 use Rattle.run_text.specs.Texts.{headingBytes, refusalBytes, laid}
 use Rattle.run_lines.specs.declared.Lines.{Lines}
-use Rattle.run_lines.specs.Inner.{innerAnswers, innerFinal}
-use Rattle.run_lines.specs.Output.{lastAfter, numbered, rowsIn, addLine, addedTo}
+use Rattle.run_rows.specs.Many.{rowsIn, innerAnswers, innerFinal}
+use Rattle.run_lines.specs.Output.{lastAfter, numbered, addLine, addedTo}
 use Rattle.run_pieces.specs.declared.Run.{Run}
 use Rattle.run_pieces.specs.declared.Fed.{Fed}
 use Rattle.run_pieces.specs.declared.Again.{Again}

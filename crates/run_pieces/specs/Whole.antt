@@ -15,7 +15,8 @@ use Rattle.rules.specs.Step.{stepDecoded}
 use Rattle.book.specs.Answers.{answersOf, finalOf}
 use Rattle.record_bytes.specs.Loading.{Loaded, load, Saved, refusedSave, save}
 use Rattle.run_text.specs.Texts.{headingBytes, refusalBytes}
-use Rattle.run_lines.specs.Output.{numbered, rowsIn}
+use Rattle.run_rows.specs.Many.{rowsIn}
+use Rattle.run_lines.specs.Output.{numbered}
 
 -- where a run begins: at boot, or at a record of some bytes
 pub data Start : Type 0 where

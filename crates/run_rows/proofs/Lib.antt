@@ -1,2 +1,4 @@
 pub mod Meaning
 pub mod Walking
+pub mod Many
+pub mod Inner

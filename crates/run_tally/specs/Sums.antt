@@ -1,20 +1,36 @@
--- Rows one after the other, and the sum of their answers.
+-- The sum of the answers to rows, one after the other.
 -- Assumes nothing.
-use Prim.Native.Nat.{ℕ, zero, suc, _+_, _*_, _/_, _%_, _^_, _<_}
+use Prim.Native.Nat.{ℕ, zero, suc, _+_, _*_, _%_, _^_, _<_}
+use mathlib.Core.Path.{_≡_}
+use mathlib.Core.Bool.{true}
 use mathlib.Core.List.{List}
-use lib.ListN.{length, take, drop}
 use Rattle.calls.specs.declared.Answer.{Answer}
-use Rattle.rules.specs.State.{boot}
+use Rattle.rules.specs.State.{State, boot}
+use Rattle.rules.specs.Sound.{sound}
 use Rattle.value_engine.specs.Stands.{engineOf}
-use Rattle.place_calls.specs.declared.Clock.{Clock}
 use Rattle.place_calls.specs.declared.Counts.{Counts}
-use Rattle.place_calls.specs.Standing.{engineIn}
+use Rattle.place_timers.specs.Arrays.{engineOn}
 use Rattle.run_rows.specs.Rows.{rowModel}
+use Rattle.run_rows.specs.Many.{rowsIn, Reached, afterRows}
+use Rattle.kernel.specs.Kernels.{kernelOf}
+use Rattle.run_tally.specs.declared.Called.{Called}
 use Rattle.run_tally.specs.declared.Tally.{Tally}
 
--- an engine with its scheduler in an array, and a sum
-abbrev pub tallyIn : List ℕ → Clock → Counts → ℕ → Tally
-tallyIn k t n sum = record { engine = engineIn k t n; sum = sum }
+-- the engine that stands in three arrays, and a sum
+abbrev pub tallyOn : List ℕ → List ℕ → List ℕ → Counts → ℕ → Reached ℕ
+tallyOn k t w n sum = record { engine = engineOn k t w n; made = sum }
+
+-- an engine by value, and a sum
+abbrev pub tallyBy : Tally → Reached ℕ
+tallyBy t = record { engine = t .engine; made = t .sum }
+
+-- a kernel's engine, and a sum
+abbrev pub tallyFrom : Called → Reached ℕ
+tallyFrom c = record { engine = c .kernel .engine; made = c .sum }
+
+-- the kernel describes a sound state
+abbrev pub Describes : Called → Type 0
+Describes c = (s : State) × (sound s ≡ true) × (c .kernel ≡ kernelOf s)
 
 -- an answer as the code has it: given in 16 bits, running in 8
 pub record Fits (answer : Answer) : Type 0 where
@@ -25,28 +41,25 @@ pub record Fits (answer : Answer) : Type 0 where
 abbrev pub weight : Answer → ℕ
 weight answer = answer .number * 16777216 + answer .given * 256 + answer .running
 
--- one row more
-unfoldable pub tallyRow : Tally → List ℕ → Tally
-tallyRow t row =
-    let r = rowModel (t .engine) row in
-    record { engine = r .engine; sum = (t .sum + weight (r .answer)) % 2 ^ 64 }
+-- a sum with one answer more
+abbrev pub addWeight : ℕ → Answer → ℕ
+addWeight sum answer = (sum + weight answer) % 2 ^ 64
 
--- the first n rows of a list of bytes, in order
-unfoldable pub firstRows : ℕ → Tally → List ℕ → Tally
-firstRows zero t rows = t
-firstRows (suc n) t rows = firstRows n (tallyRow t (take 8 rows)) (drop 8 rows)
+-- one row more
+abbrev pub tallyRow : Reached ℕ → List ℕ → Reached ℕ
+tallyRow r row = record { engine = rowModel (r .engine) row .engine; made = addWeight (r .made) (rowModel (r .engine) row .answer) }
 
 -- all whole rows of a list of bytes, in order; fewer than 8 bytes at the end are left
-abbrev pub overRows : Tally → List ℕ → Tally
-overRows t rows = firstRows (length rows / 8) t rows
+abbrev pub overRows : Reached ℕ → List ℕ → Reached ℕ
+overRows r rows = afterRows addWeight r (rowsIn rows)
 
 -- that, so many times
-unfoldable pub repeated : ℕ → Tally → List ℕ → Tally
-repeated zero t rows = t
-repeated (suc n) t rows = repeated n (overRows t rows) rows
+unfoldable pub repeated : ℕ → Reached ℕ → List ℕ → Reached ℕ
+repeated zero r rows = r
+repeated (suc n) r rows = repeated n (overRows r rows) rows
 
 -- from boot, a setup once, and the sum over the rows of a loop, so many times
 unfoldable pub sumOf : List ℕ → List ℕ → ℕ → ℕ
 sumOf setup rows repeats =
-    let ready = overRows (record { engine = engineOf boot; sum = 0 }) setup in
-    repeated repeats (record { engine = ready .engine; sum = 0 }) rows .sum
+    let ready = overRows (record { engine = engineOf boot; made = 0 }) setup in
+    repeated repeats (record { engine = ready .engine; made = 0 }) rows .made

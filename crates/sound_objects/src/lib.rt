@@ -1,4 +1,4 @@
-// Whether the mutexes and the condition variables of a page are sound: owners, waiters and ties.
+// Whether the objects of a page are sound, clause by clause: ceilings, mutexes with their owners and waiters, condition variables, timers.
 // An id is taken modulo the size of its table, so that every function is total; the limits are tested first.
 use choice::both;
 use limits::CONDITIONS;
@@ -8,21 +8,42 @@ use limits::MOST_COUNT;
 use limits::MUTEXES;
 use limits::NONE;
 use limits::ON_CONDITION;
+use limits::ONE_SHOT;
+use limits::STOPPED;
 use limits::THREADS;
+use limits::TIMERS;
 use page::ThreadRow;
 use page::ThreadRows;
-use sound_standing::Known;
+use page::TimerRow;
+use page::TimerRows;
 use sound_standing::Priorities;
 use sound_standing::anyone;
 use sound_standing::implied;
 use sound_standing::owns_nothing;
 use sound_standing::stands;
 use sound_standing::within;
+use units::Ticks;
 use value_effects::Mutex;
 use value_effects::MutexTable;
 use value_effects::Ties;
 ghost use mathlib.Core.Path.{_≡_};
-ghost use Rattle.sound_objects.specs.Objects.{mutexWaiterFits, mutexWaitersFit, ownerFits, mutexFits, mutexesFit, ceilingOf, conditionWaiterFits, conditionWaitersFit, tieFits, conditionFits, conditionsFit};
+ghost use Rattle.sound_objects.specs.Objects.{ceilingsIn, mutexWaiterFits, mutexWaitersIn, ownerFits, mutexFits, mutexesIn, ceilingOf, conditionWaiterFits, conditionWaitersIn, tieFits, conditionFits, conditionsIn, ticksFit, timerFits, timersIn};
+
+// The clause on ceilings: each is 1 to 15.
+pub fn ceilings_sound(mutexrows: MutexTable, mutexes: u8) -> bool
+    ensures { λ r. ⌜ r ≡ ceilingsIn mutexrows mutexes ⌝ }
+{
+    let mut m = mutexes;
+    while 0 < m {
+        m -= 1;
+        let i = (m % MUTEXES) as usize;
+        let row = mutexrows[i];
+        if !within(1, HIGHEST, row.ceiling) {
+            return false;
+        }
+    }
+    true
+}
 
 // A waiter for mutex m isn't its owner and its priority isn't above the ceiling.
 fn mutex_waiter_fits(m: u8, row: Mutex, t: u8, other: ThreadRow, its: u8) -> bool
@@ -35,14 +56,20 @@ fn mutex_waiter_fits(m: u8, row: Mutex, t: u8, other: ThreadRow, its: u8) -> boo
 }
 
 // The test of a waiter for mutex m, of each thread.
-fn mutex_waiters_fit(rows: ThreadRows, priorities: Priorities, n: u8, m: u8, row: Mutex) -> bool
-    ensures { λ r. ⌜ r ≡ mutexWaitersFit rows priorities n m row ⌝ }
+fn mutex_waiters_fit(
+    threadrows: ThreadRows,
+    threads: u8,
+    priorities: Priorities,
+    m: u8,
+    row: Mutex,
+) -> bool
+    ensures { λ r. ⌜ r ≡ mutexWaitersIn threadrows threads priorities m row ⌝ }
 {
-    let mut t = n;
+    let mut t = threads;
     while 0 < t {
         t -= 1;
         let i = (t % THREADS) as usize;
-        let other = rows[i];
+        let other = threadrows[i];
         if !mutex_waiter_fits(m, row, t, other, priorities[i]) {
             return false;
         }
@@ -51,45 +78,53 @@ fn mutex_waiters_fit(rows: ThreadRows, priorities: Priorities, n: u8, m: u8, row
 }
 
 // A free mutex has owner 255, count 0 and no waiter; an owned one has an existing owner, count 1 to 255, owner's base not above the ceiling.
-fn owner_fits(rows: ThreadRows, n: u8, m: u8, row: Mutex) -> bool
-    ensures { λ r. ⌜ r ≡ ownerFits rows n m row ⌝ }
+fn owner_fits(threadrows: ThreadRows, threads: u8, m: u8, row: Mutex) -> bool
+    ensures { λ r. ⌜ r ≡ ownerFits threadrows threads m row ⌝ }
 {
     if row.owner == NONE {
-        let waited = anyone(rows, n, FOR_MUTEX, m);
+        let waited = anyone(threadrows, threads, FOR_MUTEX, m);
         return both(row.count == 0, !waited);
     }
     let i = (row.owner % THREADS) as usize;
-    let owner = rows[i];
+    let owner = threadrows[i];
     let counted = within(1, MOST_COUNT, row.count);
-    both(both(row.owner < n, counted), owner.base <= row.ceiling)
+    both(
+        both(row.owner < threads, counted),
+        owner.base <= row.ceiling,
+    )
 }
 
-// The tests of one mutex.
-fn mutex_fits(rows: ThreadRows, priorities: Priorities, known: Known, m: u8, row: Mutex) -> bool
-    ensures { λ r. ⌜ r ≡ mutexFits rows priorities known m row ⌝ }
-{
-    let ceiling = within(1, HIGHEST, row.ceiling);
-    let owner = owner_fits(rows, known.threads, m, row);
-    let waiters = mutex_waiters_fit(rows, priorities, known.threads, m, row);
-    let rest = implied(!known.started, row.owner == NONE);
-    both(ceiling, both(owner, both(waiters, rest)))
-}
-
-// The tests of each mutex.
-pub fn mutexes_fit(
-    mutexes: MutexTable,
-    rows: ThreadRows,
+// The tests of one mutex: its owner, its waiters.
+fn mutex_fits(
+    threadrows: ThreadRows,
+    threads: u8,
     priorities: Priorities,
-    known: Known,
+    m: u8,
+    row: Mutex,
 ) -> bool
-    ensures { λ r. ⌜ r ≡ mutexesFit mutexes rows priorities known ⌝ }
+    ensures { λ r. ⌜ r ≡ mutexFits threadrows threads priorities m row ⌝ }
 {
-    let mut m = known.mutexes;
+    let owner = owner_fits(threadrows, threads, m, row);
+    let waiters = mutex_waiters_fit(threadrows, threads, priorities, m, row);
+    both(owner, waiters)
+}
+
+// The clause on mutexes.
+pub fn mutexes_sound(
+    mutexrows: MutexTable,
+    mutexes: u8,
+    threadrows: ThreadRows,
+    threads: u8,
+    priorities: Priorities,
+) -> bool
+    ensures { λ r. ⌜ r ≡ mutexesIn mutexrows mutexes threadrows threads priorities ⌝ }
+{
+    let mut m = mutexes;
     while 0 < m {
         m -= 1;
         let i = (m % MUTEXES) as usize;
-        let row = mutexes[i];
-        if !mutex_fits(rows, priorities, known, m, row) {
+        let row = mutexrows[i];
+        if !mutex_fits(threadrows, threads, priorities, m, row) {
             return false;
         }
     }
@@ -110,37 +145,38 @@ fn ceiling_of(mutexes: MutexTable, n: u8, m: u8) -> u8
 
 // A waiter on condition variable c owns nothing and has base not above the ceiling.
 fn condition_waiter_fits(
-    mutexes: MutexTable,
-    n: u8,
+    mutexrows: MutexTable,
+    mutexes: u8,
     c: u8,
     ceiling: u8,
     t: u8,
     row: ThreadRow,
 ) -> bool
-    ensures { λ r. ⌜ r ≡ conditionWaiterFits mutexes n c ceiling t row ⌝ }
+    ensures { λ r. ⌜ r ≡ conditionWaiterFits mutexrows mutexes c ceiling t row ⌝ }
 {
     if !stands(row, ON_CONDITION, c) {
         return true;
     }
-    both(owns_nothing(mutexes, n, t), row.base <= ceiling)
+    both(owns_nothing(mutexrows, mutexes, t), row.base <= ceiling)
 }
 
 // The test of a waiter on condition variable c, of each thread.
 fn condition_waiters_fit(
-    rows: ThreadRows,
-    mutexes: MutexTable,
-    known: Known,
+    threadrows: ThreadRows,
+    threads: u8,
+    mutexrows: MutexTable,
+    mutexes: u8,
     c: u8,
     ceiling: u8,
 ) -> bool
-    ensures { λ r. ⌜ r ≡ conditionWaitersFit rows mutexes known c ceiling ⌝ }
+    ensures { λ r. ⌜ r ≡ conditionWaitersIn threadrows threads mutexrows mutexes c ceiling ⌝ }
 {
-    let mut t = known.threads;
+    let mut t = threads;
     while 0 < t {
         t -= 1;
         let i = (t % THREADS) as usize;
-        let row = rows[i];
-        if !condition_waiter_fits(mutexes, known.mutexes, c, ceiling, t, row) {
+        let row = threadrows[i];
+        if !condition_waiter_fits(mutexrows, mutexes, c, ceiling, t, row) {
             return false;
         }
     }
@@ -157,28 +193,86 @@ fn tie_fits(someone: bool, n: u8, tie: u8) -> bool
     tie == NONE
 }
 
-// The tests of one condition variable.
-fn condition_fits(rows: ThreadRows, mutexes: MutexTable, known: Known, c: u8, tie: u8) -> bool
-    ensures { λ r. ⌜ r ≡ conditionFits rows mutexes known c tie ⌝ }
+// The tests of one condition variable: its tie, its waiters.
+fn condition_fits(
+    threadrows: ThreadRows,
+    threads: u8,
+    mutexrows: MutexTable,
+    mutexes: u8,
+    c: u8,
+    tie: u8,
+) -> bool
+    ensures { λ r. ⌜ r ≡ conditionFits threadrows threads mutexrows mutexes c tie ⌝ }
 {
-    let someone = anyone(rows, known.threads, ON_CONDITION, c);
-    let tied = tie_fits(someone, known.mutexes, tie);
-    let ceiling = ceiling_of(mutexes, known.mutexes, tie);
+    let someone = anyone(threadrows, threads, ON_CONDITION, c);
+    let tied = tie_fits(someone, mutexes, tie);
+    let ceiling = ceiling_of(mutexrows, mutexes, tie);
     both(
         tied,
-        condition_waiters_fit(rows, mutexes, known, c, ceiling),
+        condition_waiters_fit(threadrows, threads, mutexrows, mutexes, c, ceiling),
     )
 }
 
-// The tests of each condition variable.
-pub fn conditions_fit(ties: Ties, rows: ThreadRows, mutexes: MutexTable, known: Known) -> bool
-    ensures { λ r. ⌜ r ≡ conditionsFit ties rows mutexes known ⌝ }
+// The clause on condition variables.
+pub fn conditions_sound(
+    ties: Ties,
+    conditions: u8,
+    threadrows: ThreadRows,
+    threads: u8,
+    mutexrows: MutexTable,
+    mutexes: u8,
+) -> bool
+    ensures { λ r. ⌜ r ≡ conditionsIn ties conditions threadrows threads mutexrows mutexes ⌝ }
 {
-    let mut c = known.conditions;
+    let mut c = conditions;
     while 0 < c {
         c -= 1;
         let i = (c % CONDITIONS) as usize;
-        if !condition_fits(rows, mutexes, known, c, ties[i]) {
+        if !condition_fits(threadrows, threads, mutexrows, mutexes, c, ties[i]) {
+            return false;
+        }
+    }
+    true
+}
+
+// The ticks of a running timer: n from 1, and ticks left from 1 to n if it expires once, else to n + 1; a count of ticks is never above 65,535.
+fn ticks_fit(once: bool, n: Ticks, left: Ticks) -> bool
+    ensures { λ r. ⌜ r ≡ ticksFit once (n .0) (left .0) ⌝ }
+{
+    if n.0 < 1 {
+        return false;
+    }
+    if left.0 < 1 {
+        return false;
+    }
+    if once {
+        return left.0 <= n.0;
+    }
+    left.0 - 1 <= n.0
+}
+
+// A running timer has an existing condition variable and its ticks fit; a stopped one has 255, 0 and 0.
+fn timer_fits(conditions: u8, row: TimerRow) -> bool
+    ensures { λ r. ⌜ r ≡ timerFits conditions row ⌝ }
+{
+    if row.state == STOPPED {
+        let blank = both(row.condition == NONE, row.length.0 == 0);
+        return both(blank, row.left.0 == 0);
+    }
+    let ticks = ticks_fit(row.state == ONE_SHOT, row.length, row.left);
+    both(row.condition < conditions, ticks)
+}
+
+// The clause on timers.
+pub fn timers_sound(timerrows: TimerRows, timers: u8, conditions: u8) -> bool
+    ensures { λ r. ⌜ r ≡ timersIn timerrows timers conditions ⌝ }
+{
+    let mut timer = timers;
+    while 0 < timer {
+        timer -= 1;
+        let i = (timer % TIMERS) as usize;
+        let row = timerrows[i];
+        if !timer_fits(conditions, row) {
             return false;
         }
     }

@@ -1,92 +1,97 @@
--- The code's tests of a page decide whether what it says is formed and sound.
+-- The code's tests of a page, in the definition's order after the limits, decide whether what it says is formed and sound.
 -- Assumes nothing.
-use Prim.Native.Nat.{ℕ, _<_}
+use Prim.Native.Nat.{ℕ, zero, suc, _<_}
 use mathlib.Core.Path.{_≡_, refl, sym, ap, ap₂, _∙_}
-use mathlib.Core.Bool.{Bool, true, false, not, _&&_}
-use mathlib.Core.List.{List, [], _∷_, map}
-use lib.ListN.{length, getD, length-map}
-use lib.Dec.{ltb, leb}
-use borrow.Author.Tests.{ltb-false, leb-true, not-true, lt-ltb}
-use Rattle.laws.proofs.Bools.{and-left, and-right, and-true, and-false, nor-left, nor-right}
-use Rattle.laws.proofs.Lists.{length-tabulate}
-use Rattle.units.specs.Units.{outside}
+use mathlib.Core.Bool.{Bool, true, false, _&&_}
+use mathlib.Core.List.{List, [], _∷_, _++_, map}
+use lib.ListN.{length, getD, drop}
+use borrow.Author.Tests.{le-ltb}
+use Rattle.laws.proofs.Bools.{and-true, and-false}
+use Rattle.laws.proofs.Lists.{by-below}
 use Rattle.rules.specs.Sound.{all, each, limits, clauses}
-use Rattle.rules.specs.Page.{threadOf, timerOf, rowsOf, objectSound, placeSound, eachRow, pageFormed, pageSound}
+use Rattle.rules.specs.Page.{timerOf, objectSound, placeSound, eachRow, pageFormed, pageSound}
 use Rattle.page.specs.declared.Page.{Page}
 use Rattle.page.specs.Says.{said}
-use Rattle.sound_page.specs.WholePage.{countsFit, tablesFit}
-use Rattle.sound_page.proofs.Told
-use Rattle.sound_page.proofs.Shuffle.{same-order, to-right}
-use Rattle.sound_page.proofs.Apart.{tests, code-order}
-use Rattle.sound_page.proofs.Clauses.{clause-order}
+use Rattle.sound_standing.proofs.Said.{rows, priorities, runner, top}
+use Rattle.sound_threads.specs.Threads.{basesIn, idleIn, runnerIn, noneAboveIn, objectsExistIn, objectCodesIn, placesIn}
+use Rattle.sound_threads.proofs.Clauses.{bases-law, idle-law, runner-law, none-above-law, objects-exist-law, object-codes-law, places-law}
+use Rattle.sound_objects.specs.Objects.{ceilingsIn, mutexesIn, conditionsIn, timersIn}
+use Rattle.sound_objects.proofs.Clauses.{ceilings-law, mutexes-law, conditions-law, timers-law}
+use Rattle.sound_page.specs.WholePage.{formIn, restIn}
+use Rattle.sound_page.proofs.Clauses.{limited, limits-law, small, form-law, rest-law}
 
--- ---- the limits
+-- ---- lists of tests
 
--- the five limits, the last apart
-bounds : (a b c d e : Bool) → (a && (b && (c && (d && (e && true))))) ≡ (a && (b && (c && d)) && e)
-bounds a b c d e = simp (to-right, and-true)
+-- two more tests at the end
+at-end : (l : List Bool) (a b : Bool) → (all l && a && b) ≡ all (l ++ (a ∷ b ∷ []))
+at-end [] a b = sym (ap (λ c. a && c) (and-true b))
+at-end (true ∷ l) a b = at-end l a b
+at-end (false ∷ l) a b = refl
 
--- where the first of a list does not hold, not all do
-first-fails : (l : List Bool) → getD l 0 true ≡ false → all l ≡ false
-first-fails [] e = e
-first-fails (b ∷ l) e = rw e refl
+-- the limits, which stand first in the clauses, before the form
+limits-first : (form : Bool) (l : List Bool) (a b c : Bool) → (getD l 0 true ≡ true → (form && all (drop 1 l ++ (a ∷ b ∷ []))) ≡ c) → (form && (all l && a && b)) ≡ (getD l 0 true && c)
+limits-first form [] a b c h = ap (λ d. form && d) (at-end [] a b) ∙ h refl
+limits-first form (true ∷ l) a b c h = ap (λ d. form && d) (at-end l a b) ∙ h refl
+limits-first form (false ∷ l) a b c h = and-false form
 
--- where the second test fails, all fail
-fails : (f a x y : Bool) → a ≡ false → false ≡ (f && (a && x && y))
-fails f a x y e = rw e (sym (and-false f))
+-- where one test of a list does not hold, not all do
+one-fails : (l : List Bool) (i : ℕ) → getD l i true ≡ false → all l ≡ false
+one-fails [] i e = e
+one-fails (b ∷ l) zero e = rw e
+one-fails (b ∷ l) (suc i) e = ap (λ c. b && c) (one-fails l i e) ∙ and-false b
+
+-- ---- the tests of a page
 
 module _ (p : Page) where
-  -- whether the tables are within their limits
-  abbrev pub counted : Bool
-  counted = countsFit (p .threads) (p .mutexes) (p .conditions) (p .timers)
+  -- those of the code within the limits, in its order
+  abbrev asked : List Bool
+  asked =
+      formIn (p .threadrows) (p .threads) (p .timerrows) (p .timers)
+      ∷ basesIn (p .threadrows) (p .threads)
+      ∷ ceilingsIn (p .mutexrows) (p .mutexes)
+      ∷ idleIn (p .threadrows) (p .mutexrows) (p .mutexes)
+      ∷ runnerIn (p .started) (runner p) (p .threadrows) (p .threads)
+      ∷ noneAboveIn (p .started) (top p) (p .threadrows) (p .threads) (priorities p)
+      ∷ objectsExistIn (p .threadrows) (p .threads) (p .mutexes) (p .conditions)
+      ∷ mutexesIn (p .mutexrows) (p .mutexes) (p .threadrows) (p .threads) (priorities p)
+      ∷ conditionsIn (p .ties) (p .conditions) (p .threadrows) (p .threads) (p .mutexrows) (p .mutexes)
+      ∷ timersIn (p .timerrows) (p .timers) (p .conditions)
+      ∷ restIn (p .started) (p .count) (p .threadrows) (p .threads) (p .mutexrows) (p .mutexes) (p .timerrows) (p .timers)
+      ∷ objectCodesIn (p .threadrows) (p .threads)
+      ∷ placesIn (p .threadrows) (p .threads) (priorities p) ∷ []
 
-  -- the clause on the limits, of what the page says
-  abbrev pub limited : Bool
-  limited = all (limits (rowsOf (said p)) (said p .count) (map timerOf (said p .timers)))
+  -- and the limits first
+  abbrev pub tests : List Bool
+  tests = limited p ∷ asked
 
-  -- the clause is that test, and one on the tick count
-  limits-said : limited ≡ (counted && ltb (p .count) 4294967296)
-  unfolding rowsOf said
-  limits-said =
-      let a : length (map threadOf (said p .threads)) ≡ p .threads = length-map (said p .threads) threadOf ∙ length-tabulate (p .threads) _ in
-      let b : length (said p .mutexes) ≡ p .mutexes = length-tabulate (p .mutexes) _ in
-      let c : length (said p .ties) ≡ p .conditions = length-tabulate (p .conditions) _ in
-      let d : length (map timerOf (said p .timers)) ≡ p .timers = length-map (said p .timers) timerOf ∙ length-tabulate (p .timers) _ in
-      let test : ℕ → ℕ → ℕ → ℕ → Bool
-      = λ x y z w. not (outside 1 32 x) && (leb y 16 && (leb z 16 && (leb w 32 && (ltb (p .count) 4294967296 && true)))) in
-      ap₂ (λ x y. test x y (length (said p .ties)) (length (map timerOf (said p .timers)))) a b
-      ∙ ap₂ (test (p .threads) (p .mutexes)) c d
-      ∙ bounds (not (outside 1 32 (p .threads))) (leb (p .mutexes) 16) (leb (p .conditions) 16) (leb (p .timers) 32) (ltb (p .count) 4294967296)
-
-  -- a page past its limits is not sound
-  pub past-limits : counted ≡ false → false ≡ (pageFormed (said p) && pageSound (said p))
+  -- all of them hold exactly if the page is formed and sound
+  pub sound-law : p .count < 4294967296 → (pageFormed (said p) && pageSound (said p)) ≡ all tests
   unfolding pageSound
-  past-limits e =
-      let fail : limited ≡ false = limits-said ∙ rw e refl in
-      let tests : List Bool = clauses (rowsOf (said p)) (said p .count) (map timerOf (said p .timers)) in
-      fails (pageFormed (said p)) (all tests) (eachRow objectSound (said p .threads)) (each (length (said p .threads)) (placeSound (said p)))
-      (first-fails tests fail)
+  sound-law h =
+      limits-first (pageFormed (said p)) (clauses (rows p) (said p .count) (map timerOf (said p .timers))) (eachRow objectSound (said p .threads)) (each (length (said p .threads)) (placeSound (said p)))
+      (all asked)
+      (λ e.
+      let s = small p (sym (limits-law p h) ∙ e) in
+      ap₂ _&&_ (form-law p s)
+      (ap₂ _&&_ (bases-law p s)
+      (ap₂ _&&_ (ceilings-law p s)
+      (ap₂ _&&_ (idle-law p s)
+      (ap₂ _&&_ (runner-law p s)
+      (ap₂ _&&_ (none-above-law p s)
+      (ap₂ _&&_ (objects-exist-law p s)
+      (ap₂ _&&_ (mutexes-law p s)
+      (ap₂ _&&_ (conditions-law p s)
+      (ap₂ _&&_ (timers-law p s)
+      (ap₂ _&&_ (rest-law p s)
+      (ap₂ _&&_ (object-codes-law p s)
+      (ap (λ b. b && true) (places-law p s))))))))))))))
+      ∙ ap (λ b. b && all asked) (limits-law p h)
 
-  -- one within them has small tables
-  small : counted ≡ true → Told.Small p
-  small e =
-      let a = and-left (not (outside 1 32 (p .threads))) _ e in
-      let b = and-right (not (outside 1 32 (p .threads))) _ e in
-      let c = and-right (leb (p .mutexes) 16) _ b in
-      let o = not-true _ a in
-      record {
-        some = ltb-false (p .threads) 1 (nor-left (ltb (p .threads) 1) (ltb 32 (p .threads)) o);
-        threads = ltb-false 32 (p .threads) (nor-right (ltb (p .threads) 1) (ltb 32 (p .threads)) o);
-        mutexes = leb-true (p .mutexes) 16 (and-left (leb (p .mutexes) 16) _ b);
-        conditions = leb-true (p .conditions) 16 (and-left (leb (p .conditions) 16) _ c);
-        timers = leb-true (p .timers) 32 (and-right (leb (p .conditions) 16) _ c);
-      }
-
-  -- the tests of the tables of a page within its limits
-  pub within-limits : counted ≡ true → p .count < 4294967296 → tablesFit p ≡ (pageFormed (said p) && pageSound (said p))
-  within-limits e h =
-      let s = small e in
-      let q = Told.said-told p s in
-      let limit : limited ≡ true = limits-said ∙ rw (e, lt-ltb (p .count) 4294967296 h) refl in
-      let told : all (limits (Told.rowsTold p) (Told.told p .count) (map timerOf (Told.told p .timers))) ≡ true = rw q at limit in
-      code-order p ∙ same-order (tests p) ∙ sym (clause-order p s told) ∙ ap (λ y. pageFormed y && pageSound y) (sym q)
+  -- a page of which one test does not hold is not; one whose count does not fit its limit is not either
+  pub refused : (i : ℕ) → getD tests i true ≡ false → false ≡ (pageFormed (said p) && pageSound (said p))
+  unfolding pageSound said
+  refused i e = sym (by-below (p .count) 4294967296
+      (λ h. sound-law h ∙ one-fails tests i e)
+      (λ h.
+      let past = one-fails (limits (rows p) (p .count) (map timerOf (said p .timers))) 4 (le-ltb (p .count) 4294967296 h) in
+      rw (one-fails (clauses (rows p) (p .count) (map timerOf (said p .timers))) 0 past) (and-false (pageFormed (said p)))))

@@ -1,74 +1,53 @@
--- What the tests of a whole page make of its tables: the code's promises cite these.
+-- What the clauses on a whole page make of its tables, the limits, the form of the states and the rest while stopped: the code's promises cite these.
 -- An id is taken modulo the size of its table.
 -- Assumes nothing.
-use Prim.Native.Nat.{ℕ, _+_, _%_}
-use mathlib.Core.Bool.{Bool, cond, not, _&&_}
+use Prim.Native.Nat.{ℕ}
+use mathlib.Core.Bool.{Bool, not, _&&_}
 use mathlib.Core.List.{List}
-use lib.ListN.{getD}
-use lib.Dec.{eqb, ltb, leb}
+use lib.Dec.{eqb, leb}
 use Rattle.units.specs.Units.{outside}
-use Rattle.rules.specs.Effects.{goes}
-use Rattle.rules.specs.Sound.{each, implies, mostLeft}
-use Rattle.rules.specs.Page.{timerStateOf, runnerFrom, timerFormed}
+use Rattle.rules.specs.State.{ready, same}
+use Rattle.rules.specs.Sound.{each, implies}
+use Rattle.rules.specs.Page.{threadFormed, timerFormed}
+use Rattle.value_effects.specs.declared.Mutex.{Mutex}
+use Rattle.page.specs.declared.ThreadRow.{ThreadRow}
 use Rattle.page.specs.declared.TimerRow.{TimerRow}
-use Rattle.page.specs.declared.Page.{Page}
-use Rattle.page.specs.Says.{timerSaid, noTimerRow}
-use Rattle.sound_standing.specs.declared.Known.{Known}
-use Rattle.sound_standing.specs.Standing.{prioritiesIn, threadsIn, topIn}
-use Rattle.sound_threads.specs.Threads.{threadsFit, idleFits, runnerFits}
-use Rattle.sound_objects.specs.Objects.{mutexesFit, conditionsFit}
-
--- ---- the rows of the timers
-
--- the row of timer i
-abbrev pub timerAt : List TimerRow → ℕ → TimerRow
-timerAt rows i = getD rows (i % 32) noTimerRow
-
--- the n of a running timer and its ticks left: from 1 to 65,535 both, and left at most n for a one-shot, which expires once, else n + 1
-unfoldable pub ticksFit : Bool → ℕ → ℕ → Bool
-ticksFit once n left = not (outside 1 65535 n) && not (outside 1 65535 left) && leb left (cond once n (n + 1))
-
--- a running timer has an existing condition variable, n and ticks left from 1 to 65,535, and left at most the most of its state; a stopped one 255, 0 and 0
-unfoldable pub runsOn : ℕ → TimerRow → Bool
-runsOn n row =
-    cond (goes (timerStateOf (row .state)))
-    (ltb (row .condition) n && not (outside 1 65535 (row .length .0)) && not (outside 1 65535 (row .left .0)) && leb (row .left .0) (mostLeft (timerStateOf (row .state)) (row .length .0)))
-    (eqb (row .condition) 255 && eqb (row .length .0) 0 && eqb (row .left .0) 0)
-
--- that, a state as the record has it, and none runs while stopped
-unfoldable pub timerFits : Known → TimerRow → Bool
-timerFits x row = timerFormed (timerSaid row) && (runsOn (x .conditions) row && implies (not (x .started)) (not (goes (timerStateOf (row .state)))))
-
--- of each of n timers
-unfoldable pub timersFit : List TimerRow → ℕ → Known → Bool
-timersFit rows n x = each n (λ i. timerFits x (timerAt rows i))
-
--- ---- the whole page
+use Rattle.page.specs.Says.{threadSaid, timerSaid}
+use Rattle.sound_standing.specs.Standing.{rowAt, mutexAt, timerAt, standsOf}
 
 -- the counts of the four tables
-abbrev pub countsFit : ℕ → ℕ → ℕ → ℕ → Bool
-countsFit threads mutexes conditions timers = not (outside 1 32 threads) && (leb mutexes 16 && (leb conditions 16 && leb timers 32))
+abbrev pub limitsIn : ℕ → ℕ → ℕ → ℕ → Bool
+limitsIn threads mutexes conditions timers = not (outside 1 32 threads) && (leb mutexes 16 && (leb conditions 16 && leb timers 32))
 
--- what is known of a page
-unfoldable pub knownOf : Page → Known
-knownOf p = record {
-  started = p .started;
-  runner = runnerFrom 0 (threadsIn (p .threadrows) (p .threads));
-  top = topIn (p .threadrows) (p .threads) (p .mutexrows) (p .mutexes) (runnerFrom 0 (threadsIn (p .threadrows) (p .threads)));
-  threads = p .threads;
-  mutexes = p .mutexes;
-  conditions = p .conditions;
-}
+-- ---- the form of the states
 
--- the tests of all tables of a page
-unfoldable pub tablesFit : Page → Bool
-tablesFit p =
-    let x = knownOf p in
-    let priorities = prioritiesIn (p .threadrows) (p .mutexrows) (p .mutexes) in
-    threadsFit (p .threadrows) priorities x
-    && (mutexesFit (p .mutexrows) (p .threadrows) priorities x
-    && (conditionsFit (p .ties) (p .threadrows) (p .mutexrows) x
-    && (timersFit (p .timerrows) (p .timers) x
-    && (idleFits (p .threadrows) (p .mutexrows) (p .mutexes)
-    && (runnerFits x
-    && implies (not (p .started)) (eqb (p .count) 0))))))
+-- of the threads
+unfoldable pub threadsFormedIn : List ThreadRow → ℕ → Bool
+threadsFormedIn rows n = each n (λ t. threadFormed (threadSaid (rowAt rows t)))
+
+-- of the timers
+unfoldable pub timersFormedIn : List TimerRow → ℕ → Bool
+timersFormedIn rows n = each n (λ i. timerFormed (timerSaid (timerAt rows i)))
+
+-- both
+unfoldable pub formIn : List ThreadRow → ℕ → List TimerRow → ℕ → Bool
+formIn rows n timers k = threadsFormedIn rows n && timersFormedIn timers k
+
+-- ---- rest
+
+-- all threads are ready
+unfoldable pub allReadyIn : List ThreadRow → ℕ → Bool
+allReadyIn rows n = each n (λ t. same (standsOf (rowAt rows t)) ready)
+
+-- nothing is owned
+unfoldable pub nothingOwnedIn : List Mutex → ℕ → Bool
+nothingOwnedIn mutexes n = each n (λ m. eqb (mutexAt mutexes m .owner) 255)
+
+-- no timer runs
+unfoldable pub noTimerRunsIn : List TimerRow → ℕ → Bool
+noTimerRunsIn rows n = each n (λ i. eqb (timerAt rows i .state) 0)
+
+-- all these while stopped, and the count is 0
+unfoldable pub restIn : Bool → ℕ → List ThreadRow → ℕ → List Mutex → ℕ → List TimerRow → ℕ → Bool
+restIn started count rows threads mutexes n timers k =
+    implies (not started) (allReadyIn rows threads && (nothingOwnedIn mutexes n && (noTimerRunsIn timers k && eqb count 0)))

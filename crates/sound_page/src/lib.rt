@@ -1,83 +1,44 @@
-// Whether a page is sound: the counts of its tables, its timers, and the tests of all tables together.
+// Whether a page is sound: the limits, and then the form of the states and the clauses in the definition's order, each a function of its own.
 // An id is taken modulo the size of its table, so that every function is total; the limits are tested first.
 use choice::both;
 use limits::CONDITIONS;
 use limits::MUTEXES;
 use limits::NONE;
-use limits::ONE_SHOT;
+use limits::ON_CONDITION;
 use limits::PERIODIC;
+use limits::READY;
 use limits::STOPPED;
 use limits::THREADS;
 use limits::TIMERS;
 use page::Page;
-use page::TimerRow;
+use page::ThreadRows;
 use page::TimerRows;
-use sound_objects::conditions_fit;
-use sound_objects::mutexes_fit;
-use sound_standing::Known;
-use sound_standing::implied;
+use sound_objects::ceilings_sound;
+use sound_objects::conditions_sound;
+use sound_objects::mutexes_sound;
+use sound_objects::timers_sound;
 use sound_standing::priorities_of;
 use sound_standing::runner_of;
+use sound_standing::stands;
 use sound_standing::top_of;
 use sound_standing::within;
-use sound_threads::idle_fits;
-use sound_threads::runner_fits;
-use sound_threads::threads_fit;
-use units::Ticks;
+use sound_threads::bases_sound;
+use sound_threads::idle_sound;
+use sound_threads::none_above;
+use sound_threads::object_codes_sound;
+use sound_threads::objects_exist;
+use sound_threads::places_sound;
+use sound_threads::runner_sound;
+use value_effects::MutexTable;
 ghost use mathlib.Core.Path.{_≡_};
 ghost use mathlib.Core.Bool.{_&&_};
 ghost use Rattle.rules.specs.Page.{pageFormed, pageSound};
 ghost use Rattle.page.specs.Says.{said};
-ghost use Rattle.sound_page.specs.WholePage.{ticksFit, timerFits, timersFit, countsFit, knownOf, tablesFit};
+ghost use Rattle.sound_page.specs.WholePage.{limitsIn, threadsFormedIn, timersFormedIn, formIn, allReadyIn, nothingOwnedIn, noTimerRunsIn, restIn};
 
-// The ticks of a running timer: n from 1, and ticks left from 1 to n if it expires once, else to n + 1; a count of ticks is never above 65,535.
-fn ticks_fit(once: bool, n: Ticks, left: Ticks) -> bool
-    ensures { λ r. ⌜ r ≡ ticksFit once (n .0) (left .0) ⌝ }
-{
-    if n.0 < 1 {
-        return false;
-    }
-    if left.0 < 1 {
-        return false;
-    }
-    if once {
-        return left.0 <= n.0;
-    }
-    left.0 - 1 <= n.0
-}
-
-// A running timer has an existing condition variable and its ticks fit, and none runs while stopped; a stopped one has 255, 0 and 0.
-fn timer_fits(known: Known, row: TimerRow) -> bool
-    ensures { λ r. ⌜ r ≡ timerFits known row ⌝ }
-{
-    if row.state == STOPPED {
-        let blank = both(row.condition == NONE, row.length.0 == 0);
-        return both(blank, row.left.0 == 0);
-    }
-    let ticks = ticks_fit(row.state == ONE_SHOT, row.length, row.left);
-    let runs = both(row.condition < known.conditions, ticks);
-    both(row.state <= PERIODIC, both(runs, known.started))
-}
-
-// That test of each of n timers.
-fn timers_fit(rows: TimerRows, n: u8, known: Known) -> bool
-    ensures { λ r. ⌜ r ≡ timersFit rows n known ⌝ }
-{
-    let mut timer = n;
-    while 0 < timer {
-        timer -= 1;
-        let i = (timer % TIMERS) as usize;
-        let row = rows[i];
-        if !timer_fits(known, row) {
-            return false;
-        }
-    }
-    true
-}
-
-// The counts of the four tables are within their limits.
-fn counts_fit(threads: u8, mutexes: u8, conditions: u8, timers: u8) -> bool
-    ensures { λ r. ⌜ r ≡ countsFit threads mutexes conditions timers ⌝ }
+// The limits, of the counts of the four tables; the tick count fits by its type.
+pub fn limits_sound(threads: u8, mutexes: u8, conditions: u8, timers: u8) -> bool
+    ensures { λ r. ⌜ r ≡ limitsIn threads mutexes conditions timers ⌝ }
 {
     let some = within(1, THREADS, threads);
     both(
@@ -89,56 +50,177 @@ fn counts_fit(threads: u8, mutexes: u8, conditions: u8, timers: u8) -> bool
     )
 }
 
-// What the tests of the rows read besides them.
-fn known_of(page: Page) -> Known
-    ensures { λ r. ⌜ r ≡ knownOf page ⌝ }
+// The state of each thread is 1 to 4.
+fn threads_formed(threadrows: ThreadRows, threads: u8) -> bool
+    ensures { λ r. ⌜ r ≡ threadsFormedIn threadrows threads ⌝ }
 {
-    let rows = page.threadrows;
-    let mutexes = page.mutexrows;
-    let runner = runner_of(rows, page.threads);
-    let top = top_of(rows, page.threads, mutexes, page.mutexes, runner);
-    Known {
-        started: page.started,
-        runner,
-        top,
-        threads: page.threads,
-        mutexes: page.mutexes,
-        conditions: page.conditions,
+    let mut t = threads;
+    while 0 < t {
+        t -= 1;
+        let i = (t % THREADS) as usize;
+        let row = threadrows[i];
+        if !within(READY, ON_CONDITION, row.state) {
+            return false;
+        }
     }
+    true
 }
 
-// The tests of all tables.
-fn tables_fit(page: Page) -> bool
-    ensures { λ r. ⌜ r ≡ tablesFit page ⌝ }
+// The state of each timer is at most 2.
+fn timers_formed(timerrows: TimerRows, timers: u8) -> bool
+    ensures { λ r. ⌜ r ≡ timersFormedIn timerrows timers ⌝ }
 {
-    let rows = page.threadrows;
-    let mutexes = page.mutexrows;
-    let ties = page.ties;
-    let timers = page.timerrows;
-    let known = known_of(page);
-    let priorities = priorities_of(rows, mutexes, page.mutexes);
-    let threads = threads_fit(rows, priorities, known);
-    let owned = mutexes_fit(mutexes, rows, priorities, known);
-    let tied = conditions_fit(ties, rows, mutexes, known);
-    let timed = timers_fit(timers, page.timers, known);
-    let idle = idle_fits(rows, mutexes, page.mutexes);
-    let runner = runner_fits(known);
-    let rest = implied(!page.started, page.count == 0);
-    both(
-        threads,
-        both(
-            owned,
-            both(tied, both(timed, both(idle, both(runner, rest)))),
-        ),
-    )
+    let mut timer = timers;
+    while 0 < timer {
+        timer -= 1;
+        let i = (timer % TIMERS) as usize;
+        let row = timerrows[i];
+        if PERIODIC < row.state {
+            return false;
+        }
+    }
+    true
 }
 
-// Whether a page is formed and sound; the limits first.
+// The form of the states.
+pub fn form_sound(threadrows: ThreadRows, threads: u8, timerrows: TimerRows, timers: u8) -> bool
+    ensures { λ r. ⌜ r ≡ formIn threadrows threads timerrows timers ⌝ }
+{
+    let formed = threads_formed(threadrows, threads);
+    both(formed, timers_formed(timerrows, timers))
+}
+
+// All threads are ready.
+fn all_ready(threadrows: ThreadRows, threads: u8) -> bool
+    ensures { λ r. ⌜ r ≡ allReadyIn threadrows threads ⌝ }
+{
+    let mut t = threads;
+    while 0 < t {
+        t -= 1;
+        let i = (t % THREADS) as usize;
+        let row = threadrows[i];
+        if !stands(row, READY, NONE) {
+            return false;
+        }
+    }
+    true
+}
+
+// Nothing is owned.
+fn nothing_owned(mutexrows: MutexTable, mutexes: u8) -> bool
+    ensures { λ r. ⌜ r ≡ nothingOwnedIn mutexrows mutexes ⌝ }
+{
+    let mut m = mutexes;
+    while 0 < m {
+        m -= 1;
+        let i = (m % MUTEXES) as usize;
+        let row = mutexrows[i];
+        if row.owner != NONE {
+            return false;
+        }
+    }
+    true
+}
+
+// No timer runs.
+fn no_timer_runs(timerrows: TimerRows, timers: u8) -> bool
+    ensures { λ r. ⌜ r ≡ noTimerRunsIn timerrows timers ⌝ }
+{
+    let mut timer = timers;
+    while 0 < timer {
+        timer -= 1;
+        let i = (timer % TIMERS) as usize;
+        let row = timerrows[i];
+        if row.state != STOPPED {
+            return false;
+        }
+    }
+    true
+}
+
+// The clause on rest: while stopped all threads are ready, nothing is owned, no timer runs, the count is 0.
+pub fn rest_sound(
+    started: bool,
+    count: u32,
+    threadrows: ThreadRows,
+    threads: u8,
+    mutexrows: MutexTable,
+    mutexes: u8,
+    timerrows: TimerRows,
+    timers: u8,
+) -> bool
+    ensures { λ r. ⌜ r ≡ restIn started count threadrows threads mutexrows mutexes timerrows timers ⌝ }
+{
+    if started {
+        return true;
+    }
+    let ready = all_ready(threadrows, threads);
+    let free = nothing_owned(mutexrows, mutexes);
+    let still = no_timer_runs(timerrows, timers);
+    both(ready, both(free, both(still, count == 0)))
+}
+
+// Whether a page is formed and sound: the limits first, then clause by clause.
 pub fn sound(page: Page) -> bool
     ensures { λ r. ⌜ r ≡ (pageFormed (said page) && pageSound (said page)) ⌝ }
 {
-    if !counts_fit(page.threads, page.mutexes, page.conditions, page.timers) {
+    if !limits_sound(page.threads, page.mutexes, page.conditions, page.timers) {
         return false;
     }
-    tables_fit(page)
+    let threadrows = page.threadrows;
+    let threads = page.threads;
+    let mutexrows = page.mutexrows;
+    let mutexes = page.mutexes;
+    let timerrows = page.timerrows;
+    if !form_sound(threadrows, threads, timerrows, page.timers) {
+        return false;
+    }
+    if !bases_sound(threadrows, threads) {
+        return false;
+    }
+    if !ceilings_sound(mutexrows, mutexes) {
+        return false;
+    }
+    if !idle_sound(threadrows, mutexrows, mutexes) {
+        return false;
+    }
+    let runner = runner_of(threadrows, threads);
+    if !runner_sound(page.started, runner, threadrows, threads) {
+        return false;
+    }
+    let priorities = priorities_of(threadrows, mutexrows, mutexes);
+    let top = top_of(threadrows, threads, mutexrows, mutexes, runner);
+    if !none_above(page.started, top, threadrows, threads, priorities) {
+        return false;
+    }
+    if !objects_exist(threadrows, threads, mutexes, page.conditions) {
+        return false;
+    }
+    if !mutexes_sound(mutexrows, mutexes, threadrows, threads, priorities) {
+        return false;
+    }
+    let ties = page.ties;
+    let conditions = page.conditions;
+    if !conditions_sound(ties, conditions, threadrows, threads, mutexrows, mutexes) {
+        return false;
+    }
+    if !timers_sound(timerrows, page.timers, page.conditions) {
+        return false;
+    }
+    if !rest_sound(
+        page.started,
+        page.count,
+        threadrows,
+        threads,
+        mutexrows,
+        mutexes,
+        timerrows,
+        page.timers,
+    ) {
+        return false;
+    }
+    if !object_codes_sound(threadrows, threads) {
+        return false;
+    }
+    places_sound(threadrows, threads, priorities)
 }

@@ -1,2 +1,4 @@
 pub mod Standing
 pub mod Loops
+pub mod Tests
+pub mod Said

@@ -1,4 +1,4 @@
--- What the tests of a page read of the tables that they are handed: the code's promises cite these.
+-- What the clauses on a page read of the tables that they are handed: the code's promises cite these.
 -- An id is taken modulo the size of its table.
 -- Assumes nothing.
 use Prim.Native.Nat.{ℕ, zero, suc, _%_, max}
@@ -13,7 +13,8 @@ use Rattle.rules.specs.Page.{whereOf, threadOf}
 use Rattle.value_effects.specs.declared.Mutex.{Mutex}
 use Rattle.value_effects.specs.Effects.{ceilingFor}
 use Rattle.page.specs.declared.ThreadRow.{ThreadRow}
-use Rattle.page.specs.Says.{threadSaid, noThreadRow, noMutexRow}
+use Rattle.page.specs.declared.TimerRow.{TimerRow}
+use Rattle.page.specs.Says.{threadSaid, noThreadRow, noMutexRow, noTimerRow}
 
 -- ---- rows
 
@@ -24,6 +25,14 @@ rowAt rows t = getD rows (t % 32) noThreadRow
 -- of mutex m
 abbrev pub mutexAt : List Mutex → ℕ → Mutex
 mutexAt rows m = getD rows (m % 16) noMutexRow
+
+-- the mutex that condition variable c is tied to
+abbrev pub tieAt : List ℕ → ℕ → ℕ
+tieAt ties c = getD ties (c % 16) 0
+
+-- the row of timer i
+abbrev pub timerAt : List TimerRow → ℕ → TimerRow
+timerAt rows i = getD rows (i % 32) noTimerRow
 
 -- the priority of thread t
 abbrev pub priorityAt : List ℕ → ℕ → ℕ

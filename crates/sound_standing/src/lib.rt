@@ -1,4 +1,4 @@
-// What the tests of a page read of its tables: where threads stand, their priorities, who owns nothing, and which thread runs.
+// What the clauses on a page read of its tables: where threads stand, their priorities, who owns nothing, and which thread runs.
 // An id is taken modulo the size of its table, so that every function is total; the limits are tested first.
 use choice::larger;
 use limits::FOR_MUTEX;
@@ -23,17 +23,6 @@ ghost use Rattle.sound_standing.specs.Standing.{kindOf, standsOf, ceilin
 
 // The priority of each thread.
 pub type Priorities = [u8; THREAD_ROWS];
-
-// What the tests of one row read besides it: whether started, the running thread or 255, its priority, and how many threads, mutexes and
-// condition variables there are.
-pub struct Known {
-    pub started: bool,
-    pub runner: u8,
-    pub top: u8,
-    pub threads: u8,
-    pub mutexes: u8,
-    pub conditions: u8,
-}
 
 // Whether the second is true if the first is.
 pub fn implied(x: bool, y: bool) -> bool

@@ -6,24 +6,22 @@ use mathlib.Core.Bool.{Bool, true, false, cond, not, _||_, Bool·beq}
 use lib.Dec.{eqb, ltb}
 use Rattle.rules.specs.State.{waits}
 use Rattle.rules.specs.Page.{whereOf}
-use Rattle.sound_standing.specs.declared.Known.{Known}
 use Rattle.sound_standing.specs.Standing.{kindOf}
 use Rattle.sound_standing.proofs.Standing.{place, number}
 use Rattle.sound_threads.specs.Threads.{existsIn}
 
 -- what is waited for exists
-found : (x : Known) (a b d : Bool) (o : ℕ)
-    → existsIn x (place a b d o) ≡ (ltb (number a b d) 3 || cond (eqb (number a b d) 3) (ltb o (x .mutexes)) (ltb o (x .conditions)))
+found : (n k : ℕ) (a b d : Bool) (o : ℕ) → existsIn n k (place a b d o) ≡ (ltb (number a b d) 3 || cond (eqb (number a b d) 3) (ltb o n) (ltb o k))
 unfolding existsIn
-found x true b d o = refl
-found x false true d o = refl
-found x false false true o = refl
-found x false false false o = refl
+found n k true b d o = refl
+found n k false true d o = refl
+found n k false false true o = refl
+found n k false false false o = refl
 
 -- the same of a state and an object
-pub exists-kind : (x : Known) (s o : ℕ) → existsIn x (whereOf s o) ≡ (ltb (kindOf s) 3 || cond (eqb (kindOf s) 3) (ltb o (x .mutexes)) (ltb o (x .conditions)))
+pub exists-kind : (n k s o : ℕ) → existsIn n k (whereOf s o) ≡ (ltb (kindOf s) 3 || cond (eqb (kindOf s) 3) (ltb o n) (ltb o k))
 unfolding whereOf kindOf
-exists-kind x s o = found x (eqb s 1) (eqb s 2) (eqb s 3) o
+exists-kind n k s o = found n k (eqb s 1) (eqb s 2) (eqb s 3) o
 
 -- whether a thread waits for nothing
 waiting : (a b d : Bool) (o : ℕ) → not (waits (place a b d o)) ≡ ltb (number a b d) 3

@@ -1,55 +1,78 @@
--- What the tests of the threads of a page make of the tables that they are handed: the code's promises cite these.
+-- What the clauses on the threads of a page make of the tables that they are handed: the code's promises cite these.
 -- An id is taken modulo the size of its table.
 -- Assumes nothing.
 use Prim.Native.Nat.{ℕ}
-use mathlib.Core.Bool.{Bool, true, cond, not, _&&_}
+use mathlib.Core.Bool.{Bool, true, cond, not, _||_, _&&_}
 use mathlib.Core.List.{List}
 use lib.Dec.{eqb, ltb, leb}
 use Rattle.units.specs.Units.{outside}
 use Rattle.rules.specs.State.{Where, running, ready, forMutex, onCondition, same, waits}
 use Rattle.rules.specs.Sound.{each, implies}
-use Rattle.rules.specs.Page.{howMany, threadFormed, objectSound}
+use Rattle.rules.specs.Page.{howMany}
 use Rattle.value_effects.specs.declared.Mutex.{Mutex}
 use Rattle.page.specs.declared.ThreadRow.{ThreadRow}
-use Rattle.page.specs.Says.{threadSaid}
-use Rattle.sound_standing.specs.declared.Known.{Known}
 use Rattle.sound_standing.specs.Standing.{rowAt, priorityAt, standsOf, ownsNothingIn}
 
--- ---- the row of a thread
+-- ---- bases, and thread 0
 
 -- base 0 for thread 0 and 1 to 15 for others
 abbrev pub baseFits : ℕ → ℕ → Bool
 baseFits t base = cond (eqb t 0) (eqb base 0) (not (outside 1 15 base))
 
--- it runs exactly if it is the runner of a started page
-unfoldable pub runsFits : Known → ℕ → ThreadRow → Bool
-runsFits x t row = eqb (cond (same (standsOf row) running) 1 0) (cond (x .started && eqb t (x .runner)) 1 0)
+-- of each thread
+unfoldable pub basesIn : List ThreadRow → ℕ → Bool
+basesIn rows n = each n (λ t. baseFits t (rowAt rows t .base))
 
--- ready while started, it is not above the runner
-unfoldable pub notAbove : Known → ThreadRow → ℕ → Bool
-notAbove x row mine = implies (x .started && same (standsOf row) ready) (leb mine (x .top))
+-- thread 0 ready or running, owning nothing
+unfoldable pub idleIn : List ThreadRow → List Mutex → ℕ → Bool
+idleIn rows mutexes n = not (waits (standsOf (rowAt rows 0))) && ownsNothingIn mutexes n 0
 
--- the object waited for exists
-unfoldable pub existsIn : Known → Where → Bool
-existsIn x running = true
-existsIn x ready = true
-existsIn x (forMutex m) = ltb m (x .mutexes)
-existsIn x (onCondition c) = ltb c (x .conditions)
+-- ---- the running thread
 
--- while stopped it is ready
-unfoldable pub readyAtRest : Known → ThreadRow → Bool
-readyAtRest x row = implies (not (x .started)) (same (standsOf row) ready)
+-- a thread runs exactly if it is the runner of a started page
+unfoldable pub runsFits : Bool → ℕ → ℕ → ThreadRow → Bool
+runsFits started runner t row = eqb (cond (same (standsOf row) running) 1 0) (cond (started && eqb t runner) 1 0)
 
--- all these, and that its state and its object are as the record has them
-unfoldable pub threadFits : Known → ℕ → ThreadRow → ℕ → Bool
-threadFits x t row mine =
-    threadFormed (threadSaid row)
-    && (baseFits t (row .base)
-    && (runsFits x t row
-    && (notAbove x row mine
-    && (existsIn x (standsOf row)
-    && (objectSound (threadSaid row)
-    && readyAtRest x row)))))
+-- of each thread
+unfoldable pub runsIn : Bool → ℕ → List ThreadRow → ℕ → Bool
+runsIn started runner rows n = each n (λ t. runsFits started runner t (rowAt rows t))
+
+-- the runner exists if started, and is none if stopped
+abbrev pub runnerFits : Bool → ℕ → ℕ → Bool
+runnerFits started runner n = cond started (ltb runner n) (eqb runner 255)
+
+-- both
+unfoldable pub runnerIn : Bool → ℕ → List ThreadRow → ℕ → Bool
+runnerIn started runner rows n = runsIn started runner rows n && runnerFits started runner n
+
+-- ready while started, a thread of this priority is not above the runner's
+unfoldable pub notAbove : Bool → ℕ → ThreadRow → ℕ → Bool
+notAbove started top row mine = implies (started && same (standsOf row) ready) (leb mine top)
+
+-- of each thread
+unfoldable pub noneAboveIn : Bool → ℕ → List ThreadRow → ℕ → List ℕ → Bool
+noneAboveIn started top rows n priorities = each n (λ t. notAbove started top (rowAt rows t) (priorityAt priorities t))
+
+-- ---- objects
+
+-- the object waited for exists, of so many mutexes and condition variables
+unfoldable pub existsIn : ℕ → ℕ → Where → Bool
+existsIn mutexes conditions running = true
+existsIn mutexes conditions ready = true
+existsIn mutexes conditions (forMutex m) = ltb m mutexes
+existsIn mutexes conditions (onCondition c) = ltb c conditions
+
+-- of each thread
+unfoldable pub objectsExistIn : List ThreadRow → ℕ → ℕ → ℕ → Bool
+objectsExistIn rows n mutexes conditions = each n (λ t. existsIn mutexes conditions (standsOf (rowAt rows t)))
+
+-- the object of a thread that waits for none is 255
+abbrev pub objectFits : ℕ → ℕ → Bool
+objectFits state object = leb 3 state || eqb object 255
+
+-- of each thread
+unfoldable pub objectCodesIn : List ThreadRow → ℕ → Bool
+objectCodesIn rows n = each n (λ t. objectFits (rowAt rows t .state) (rowAt rows t .object))
 
 -- ---- places
 
@@ -57,42 +80,27 @@ threadFits x t row mine =
 unfoldable pub besideIn : ThreadRow → ℕ → ThreadRow → ℕ → Bool
 besideIn row mine other its = same (standsOf other) (standsOf row) && eqb its mine
 
--- whether thread u is in the queue of a thread of this row and priority
-abbrev pub besideAt : List ThreadRow → List ℕ → ThreadRow → ℕ → ℕ → Bool
-besideAt rows priorities row mine u = besideIn row mine (rowAt rows u) (priorityAt priorities u)
-
--- whether it is there and its place is smaller
+-- whether thread u is there and its place is smaller
 unfoldable pub smallerAt : List ThreadRow → List ℕ → ThreadRow → ℕ → ℕ → Bool
-smallerAt rows priorities row mine u = besideAt rows priorities row mine u && ltb (rowAt rows u .place) (row .place)
+smallerAt rows priorities row mine u = besideIn row mine (rowAt rows u) (priorityAt priorities u) && ltb (rowAt rows u .place) (row .place)
 
 -- whether it is there and its place is the same
 unfoldable pub equalAt : List ThreadRow → List ℕ → ThreadRow → ℕ → ℕ → Bool
-equalAt rows priorities row mine u = besideAt rows priorities row mine u && eqb (rowAt rows u .place) (row .place)
+equalAt rows priorities row mine u = besideIn row mine (rowAt rows u) (priorityAt priorities u) && eqb (rowAt rows u .place) (row .place)
 
 -- as many of its queue have a smaller place as its place says, and no other has the same
-unfoldable pub countedIn : List ThreadRow → List ℕ → ℕ → ThreadRow → ℕ → Bool
-countedIn rows priorities n row mine =
+unfoldable pub countedIn : List ThreadRow → ℕ → List ℕ → ThreadRow → ℕ → Bool
+countedIn rows n priorities row mine =
     eqb (howMany n (smallerAt rows priorities row mine)) (row .place) && eqb (howMany n (equalAt rows priorities row mine)) 1
 
 -- the place of a thread that runs is 0
-unfoldable pub placeFits : List ThreadRow → List ℕ → ℕ → ThreadRow → ℕ → Bool
-placeFits rows priorities n row mine = cond (same (standsOf row) running) (eqb (row .place) 0) (countedIn rows priorities n row mine)
+unfoldable pub placeFits : List ThreadRow → ℕ → List ℕ → ThreadRow → ℕ → Bool
+placeFits rows n priorities row mine = cond (same (standsOf row) running) (eqb (row .place) 0) (countedIn rows n priorities row mine)
 
--- the tests of thread t
-unfoldable pub threadAt : List ThreadRow → List ℕ → Known → ℕ → Bool
-threadAt rows priorities x t =
-    threadFits x t (rowAt rows t) (priorityAt priorities t) && placeFits rows priorities (x .threads) (rowAt rows t) (priorityAt priorities t)
+-- the test of thread t
+abbrev pub placeAt : List ThreadRow → ℕ → List ℕ → ℕ → Bool
+placeAt rows n priorities t = placeFits rows n priorities (rowAt rows t) (priorityAt priorities t)
 
 -- of each thread
-unfoldable pub threadsFit : List ThreadRow → List ℕ → Known → Bool
-threadsFit rows priorities x = each (x .threads) (threadAt rows priorities x)
-
--- ---- thread 0, and the running thread
-
--- thread 0 ready or running, owning nothing
-unfoldable pub idleFits : List ThreadRow → List Mutex → ℕ → Bool
-idleFits rows mutexes n = not (waits (standsOf (rowAt rows 0))) && ownsNothingIn mutexes n 0
-
--- the runner exists if started, and is none if stopped
-unfoldable pub runnerFits : Known → Bool
-runnerFits x = cond (x .started) (ltb (x .runner) (x .threads)) (eqb (x .runner) 255)
+unfoldable pub placesIn : List ThreadRow → ℕ → List ℕ → Bool
+placesIn rows n priorities = each n (placeAt rows n priorities)

@@ -1,16 +1,14 @@
-// Whether the threads of a page are sound: their rows, their places, thread 0, and the running thread.
+// Whether the threads of a page are sound, clause by clause: bases, thread 0, the runner, none ready above it, objects that exist, objects, places.
 // An id is taken modulo the size of its table, so that every function is total; the limits are tested first.
 use choice::both;
 use limits::FOR_MUTEX;
 use limits::HIGHEST;
 use limits::NONE;
-use limits::ON_CONDITION;
 use limits::READY;
 use limits::RUNNING;
 use limits::THREADS;
 use page::ThreadRow;
 use page::ThreadRows;
-use sound_standing::Known;
 use sound_standing::Priorities;
 use sound_standing::implied;
 use sound_standing::kind;
@@ -20,10 +18,8 @@ use sound_standing::within;
 use value_effects::MutexTable;
 ghost use mathlib.Core.Path.{_≡_};
 ghost use mathlib.Core.Bool.{cond};
-ghost use Rattle.rules.specs.Page.{objectSound};
-ghost use Rattle.page.specs.Says.{threadSaid};
 ghost use Rattle.sound_standing.specs.Standing.{standsOf};
-ghost use Rattle.sound_threads.specs.Threads.{baseFits, runsFits, notAbove, existsIn, readyAtRest, threadFits, besideIn, countedIn, placeFits, threadsFit, idleFits, runnerFits};
+ghost use Rattle.sound_threads.specs.Threads.{baseFits, basesIn, idleIn, runsFits, runsIn, runnerFits, runnerIn, notAbove, noneAboveIn, existsIn, objectsExistIn, objectFits, objectCodesIn, besideIn, countedIn, placeFits, placesIn};
 
 // Base 0 for thread 0 and 1 to 15 for others.
 fn base_fits(t: u8, base: u8) -> bool
@@ -35,72 +31,158 @@ fn base_fits(t: u8, base: u8) -> bool
     within(1, HIGHEST, base)
 }
 
+// The clause on bases.
+pub fn bases_sound(threadrows: ThreadRows, threads: u8) -> bool
+    ensures { λ r. ⌜ r ≡ basesIn threadrows threads ⌝ }
+{
+    let mut t = threads;
+    while 0 < t {
+        t -= 1;
+        let i = (t % THREADS) as usize;
+        let row = threadrows[i];
+        if !base_fits(t, row.base) {
+            return false;
+        }
+    }
+    true
+}
+
+// The clause on thread 0: it is ready or running and owns nothing.
+pub fn idle_sound(threadrows: ThreadRows, mutexrows: MutexTable, mutexes: u8) -> bool
+    ensures { λ r. ⌜ r ≡ idleIn threadrows mutexrows mutexes ⌝ }
+{
+    let row = threadrows[0];
+    let here = kind(row.state);
+    both(here < FOR_MUTEX, owns_nothing(mutexrows, mutexes, 0))
+}
+
 // A thread runs exactly if it is the runner of a started page.
-fn runs_fits(known: Known, t: u8, row: ThreadRow) -> bool
-    ensures { λ r. ⌜ r ≡ runsFits known t row ⌝ }
+fn runs_fits(started: bool, runner: u8, t: u8, row: ThreadRow) -> bool
+    ensures { λ r. ⌜ r ≡ runsFits started runner t row ⌝ }
 {
     let runs = stands(row, RUNNING, NONE);
-    let ought = both(known.started, t == known.runner);
+    let ought = both(started, t == runner);
     runs == ought
 }
 
-// A thread that is ready while started is not above the runner.
-fn not_above(known: Known, row: ThreadRow, mine: u8) -> bool
-    ensures { λ r. ⌜ r ≡ notAbove known row mine ⌝ }
+// That of each thread.
+fn runs_sound(started: bool, runner: u8, threadrows: ThreadRows, threads: u8) -> bool
+    ensures { λ r. ⌜ r ≡ runsIn started runner threadrows threads ⌝ }
 {
-    let waits = both(known.started, stands(row, READY, NONE));
-    implied(waits, mine <= known.top)
+    let mut t = threads;
+    while 0 < t {
+        t -= 1;
+        let i = (t % THREADS) as usize;
+        let row = threadrows[i];
+        if !runs_fits(started, runner, t, row) {
+            return false;
+        }
+    }
+    true
+}
+
+// The runner exists if started, and is none if stopped.
+fn runner_fits(started: bool, runner: u8, threads: u8) -> bool
+    ensures { λ r. ⌜ r ≡ runnerFits started runner threads ⌝ }
+{
+    if started {
+        return runner < threads;
+    }
+    runner == NONE
+}
+
+// The clause on the runner: one thread runs if started, none if stopped.
+pub fn runner_sound(started: bool, runner: u8, threadrows: ThreadRows, threads: u8) -> bool
+    ensures { λ r. ⌜ r ≡ runnerIn started runner threadrows threads ⌝ }
+{
+    let runs = runs_sound(started, runner, threadrows, threads);
+    both(runs, runner_fits(started, runner, threads))
+}
+
+// A thread of this priority that is ready while started is not above the runner's.
+fn not_above(started: bool, top: u8, row: ThreadRow, mine: u8) -> bool
+    ensures { λ r. ⌜ r ≡ notAbove started top row mine ⌝ }
+{
+    let waits = both(started, stands(row, READY, NONE));
+    implied(waits, mine <= top)
+}
+
+// The clause that none is ready above the runner, whose priority is handed in.
+pub fn none_above(
+    started: bool,
+    top: u8,
+    threadrows: ThreadRows,
+    threads: u8,
+    priorities: Priorities,
+) -> bool
+    ensures { λ r. ⌜ r ≡ noneAboveIn started top threadrows threads priorities ⌝ }
+{
+    let mut t = threads;
+    while 0 < t {
+        t -= 1;
+        let i = (t % THREADS) as usize;
+        let row = threadrows[i];
+        if !not_above(started, top, row, priorities[i]) {
+            return false;
+        }
+    }
+    true
 }
 
 // The object that a thread waits for exists.
-fn object_exists(known: Known, row: ThreadRow) -> bool
-    ensures { λ r. ⌜ r ≡ existsIn known (standsOf row) ⌝ }
+fn object_exists(mutexes: u8, conditions: u8, row: ThreadRow) -> bool
+    ensures { λ r. ⌜ r ≡ existsIn mutexes conditions (standsOf row) ⌝ }
 {
     let here = kind(row.state);
     if here < FOR_MUTEX {
         return true;
     }
     if here == FOR_MUTEX {
-        return row.object < known.mutexes;
+        return row.object < mutexes;
     }
-    row.object < known.conditions
+    row.object < conditions
+}
+
+// The clause that objects exist.
+pub fn objects_exist(threadrows: ThreadRows, threads: u8, mutexes: u8, conditions: u8) -> bool
+    ensures { λ r. ⌜ r ≡ objectsExistIn threadrows threads mutexes conditions ⌝ }
+{
+    let mut t = threads;
+    while 0 < t {
+        t -= 1;
+        let i = (t % THREADS) as usize;
+        let row = threadrows[i];
+        if !object_exists(mutexes, conditions, row) {
+            return false;
+        }
+    }
+    true
 }
 
 // The object of a thread that waits for none is 255.
-fn object_fits(row: ThreadRow) -> bool
-    ensures { λ r. ⌜ r ≡ objectSound (threadSaid row) ⌝ }
+fn object_fits(state: u8, object: u8) -> bool
+    ensures { λ r. ⌜ r ≡ objectFits state object ⌝ }
 {
-    if FOR_MUTEX <= row.state {
+    if FOR_MUTEX <= state {
         return true;
     }
-    row.object == NONE
+    object == NONE
 }
 
-// While stopped a thread is ready.
-fn ready_at_rest(known: Known, row: ThreadRow) -> bool
-    ensures { λ r. ⌜ r ≡ readyAtRest known row ⌝ }
+// The clause on objects.
+pub fn object_codes_sound(threadrows: ThreadRows, threads: u8) -> bool
+    ensures { λ r. ⌜ r ≡ objectCodesIn threadrows threads ⌝ }
 {
-    implied(!known.started, stands(row, READY, NONE))
-}
-
-// The tests of a thread's row but for its place.
-fn thread_fits(known: Known, t: u8, row: ThreadRow, mine: u8) -> bool
-    ensures { λ r. ⌜ r ≡ threadFits known t row mine ⌝ }
-{
-    let formed = within(READY, ON_CONDITION, row.state);
-    let base = base_fits(t, row.base);
-    let runs = runs_fits(known, t, row);
-    let below = not_above(known, row, mine);
-    let exists = object_exists(known, row);
-    let object = object_fits(row);
-    let rest = ready_at_rest(known, row);
-    both(
-        formed,
-        both(
-            base,
-            both(runs, both(below, both(exists, both(object, rest)))),
-        ),
-    )
+    let mut t = threads;
+    while 0 < t {
+        t -= 1;
+        let i = (t % THREADS) as usize;
+        let row = threadrows[i];
+        if !object_fits(row.state, row.object) {
+            return false;
+        }
+    }
+    true
 }
 
 // Whether a thread of another row and priority is in the queue of a thread of this row and priority.
@@ -121,16 +203,22 @@ fn one_if(test: bool) -> u8
 }
 
 // As many of a thread's queue have a smaller place as its place says, and no other has the same.
-fn counted(rows: ThreadRows, priorities: Priorities, n: u8, row: ThreadRow, mine: u8) -> bool
-    ensures { λ r. ⌜ r ≡ countedIn rows priorities n row mine ⌝ }
+fn counted(
+    threadrows: ThreadRows,
+    threads: u8,
+    priorities: Priorities,
+    row: ThreadRow,
+    mine: u8,
+) -> bool
+    ensures { λ r. ⌜ r ≡ countedIn threadrows threads priorities row mine ⌝ }
 {
     let mut smaller: u8 = 0;
     let mut equal: u8 = 0;
-    let mut u = n;
+    let mut u = threads;
     while 0 < u {
         u -= 1;
         let i = (u % THREADS) as usize;
-        let other = rows[i];
+        let other = threadrows[i];
         let queued = beside(row, mine, other, priorities[i]);
         smaller += one_if(both(queued, other.place < row.place));
         equal += one_if(both(queued, other.place == row.place));
@@ -139,49 +227,33 @@ fn counted(rows: ThreadRows, priorities: Priorities, n: u8, row: ThreadRow, mine
 }
 
 // The place of a thread is 0 if it runs, else as its queue has it.
-fn place_fits(rows: ThreadRows, priorities: Priorities, n: u8, row: ThreadRow, mine: u8) -> bool
-    ensures { λ r. ⌜ r ≡ placeFits rows priorities n row mine ⌝ }
+fn place_fits(
+    threadrows: ThreadRows,
+    threads: u8,
+    priorities: Priorities,
+    row: ThreadRow,
+    mine: u8,
+) -> bool
+    ensures { λ r. ⌜ r ≡ placeFits threadrows threads priorities row mine ⌝ }
 {
     if stands(row, RUNNING, NONE) {
         return row.place == 0;
     }
-    counted(rows, priorities, n, row, mine)
+    counted(threadrows, threads, priorities, row, mine)
 }
 
-// The tests of each thread.
-pub fn threads_fit(rows: ThreadRows, priorities: Priorities, known: Known) -> bool
-    ensures { λ r. ⌜ r ≡ threadsFit rows priorities known ⌝ }
+// The clause on places.
+pub fn places_sound(threadrows: ThreadRows, threads: u8, priorities: Priorities) -> bool
+    ensures { λ r. ⌜ r ≡ placesIn threadrows threads priorities ⌝ }
 {
-    let mut t = known.threads;
+    let mut t = threads;
     while 0 < t {
         t -= 1;
         let i = (t % THREADS) as usize;
-        let row = rows[i];
-        let mine = priorities[i];
-        let fits = thread_fits(known, t, row, mine);
-        let placed = place_fits(rows, priorities, known.threads, row, mine);
-        if !both(fits, placed) {
+        let row = threadrows[i];
+        if !place_fits(threadrows, threads, priorities, row, priorities[i]) {
             return false;
         }
     }
     true
-}
-
-// Thread 0 is ready or running and owns nothing.
-pub fn idle_fits(rows: ThreadRows, mutexes: MutexTable, n: u8) -> bool
-    ensures { λ r. ⌜ r ≡ idleFits rows mutexes n ⌝ }
-{
-    let row = rows[0];
-    let here = kind(row.state);
-    both(here < FOR_MUTEX, owns_nothing(mutexes, n, 0))
-}
-
-// The runner exists if started, and is none if stopped.
-pub fn runner_fits(known: Known) -> bool
-    ensures { λ r. ⌜ r ≡ runnerFits known ⌝ }
-{
-    if known.started {
-        return known.runner < known.threads;
-    }
-    known.runner == NONE
 }

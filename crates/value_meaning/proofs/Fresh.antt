@@ -32,7 +32,7 @@ mem-counted u (x ∷ q) h = by-equal u x
     (λ n. rw (ne-eqb u x n) (mem-counted u q (omega (arith, h, one-other u x n))))
 
 -- and not twice
-once-counted : (u : ℕ) (q : List ℕ) → Ordered Apart q → count u q ≤ 1
+pub once-counted : (u : ℕ) (q : List ℕ) → Ordered Apart q → count u q ≤ 1
 once-counted u [] o = omega arith
 once-counted u (x ∷ q) o = by-equal u x
     (λ e. omega (arith, ap (λ v. one u v) (sym e) ∙ one-same u, none e))
@@ -74,7 +74,7 @@ once-in-sets u (x ∷ xss) a b = by-below 0 (counts u x)
 
 module _ {stands : ℕ → Bool} {prio : ℕ → ℕ} {qs : QueueSet} (f : Fits stands prio Apart qs) where
   -- who is counted at a priority stands there with it
-  counted-at : (u p : ℕ) → 0 < count u (at qs p) → (p < 16) × (stands u ≡ true) × (prio u ≡ p)
+  pub counted-at : (u p : ℕ) → 0 < count u (at qs p) → (p < 16) × (stands u ≡ true) × (prio u ≡ p)
   counted-at u p h = by-below p 16
       (λ l. (l, here f p u l (mem-counted u (at qs p) h), here-prio f p u l (mem-counted u (at qs p) h)))
       (λ l. absurd (omega (arith, h, ap (count u) (List·getD-eq-default qs [] {n = p} (rw (f .size) l)))))

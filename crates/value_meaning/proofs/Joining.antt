@@ -32,7 +32,8 @@ rest-tail [] = refl
 rest-tail (x ∷ l) = refl
 
 module _ {k : Rows} {s : Sets} (q : Queued k s) (few : length (k .threads) ≤ 32) (w : Where) (r : Real k w) (p : ℕ) (low : p < 16) where
-  here : at (allSets s) (side s w) ≡ setAt s w
+  -- its set among all
+  pub here : at (allSets s) (side s w) ≡ setAt s w
   here = side-set s w (has-set q w r)
 
   -- one list is put at the place
@@ -40,13 +41,13 @@ module _ {k : Rows} {s : Sets} (q : Queued k s) (few : length (k .threads) ≤ 3
   put-there l = ap (λ z. record { links = linksOf (flatten z); queue = endsOf l }) (ap (λ y. set (allSets s) (side s w) (set y p l)) here ∙ sym (side-put s w (set (setAt s w) p l) (has-set q w r)))
 
   -- what an operation on one queue makes of the set
-  carried : (m : Linked) (l : List ℕ) → m ≡ linkedIn (allSets s) (side s w) p l → record { links = m .links; set = withLevelModel (queuesOf (setAt s w)) p (m .queue) } ≡ standing s w (set (setAt s w) p l)
+  pub carried : (m : Linked) (l : List ℕ) → m ≡ linkedIn (allSets s) (side s w) p l → record { links = m .links; set = withLevelModel (queuesOf (setAt s w)) p (m .queue) } ≡ standing s w (set (setAt s w) p l)
   carried m l e =
       ap (λ (z : Linked). record { links = z .links; set = withLevelModel (queuesOf (setAt s w)) p (z .queue) }) (e ∙ put-there l)
       ∙ ap (λ x. record { links = linksOf (flatten (allSets (putSet s w (set (setAt s w) p l)))); set = x }) (with-level-of (setAt s w) p l)
 
   -- the queue of priority p
-  level : levelModel (queuesOf (setAt s w)) p ≡ endsOf (at (at (allSets s) (side s w)) p)
+  pub level : levelModel (queuesOf (setAt s w)) p ≡ endsOf (at (at (allSets s) (side s w)) p)
   level = level-of (setAt s w) p ∙ ap (λ x. endsOf (at x p)) (sym here)
 
   module _ (t : ℕ) (small : t < 32) (nowhere : thread k t .stands ≡ running) where

@@ -5,6 +5,7 @@ pub mod Rows
 pub mod Threads
 pub mod Owning
 pub mod Sets
+pub mod Removing
 pub mod Calls
 pub mod Signals
 pub mod Creating

@@ -2,7 +2,7 @@
 -- Assumes nothing.
 use Prim.Native.Nat.{ℕ, _<_, _≤_}
 use mathlib.Core.Path.{_≡_, refl, sym, ap, _∙_}
-use mathlib.Core.Bool.{Bool, true, false, cond, _&&_, false≢true}
+use mathlib.Core.Bool.{Bool, true, cond, _&&_, false≢true}
 use mathlib.Core.List.{flatten}
 use native.Mathlib.Omega.{arith}
 use lib.ListN.{length, set}
@@ -15,6 +15,7 @@ use Rattle.value_tables.specs.declared.Thread as tables
 use Rattle.value_tables.specs.declared.Threads.{Threads}
 use Rattle.value_tables.specs.declared.Joined.{Joined}
 use Rattle.value_tables.specs.declared.Ran.{Ran}
+use Rattle.value_tables.specs.declared.Waiting.{Waiting}
 use Rattle.value_tables.specs.Tables.{joinModel, joinFrontModel, departModel, headModel, rowOf, standModel, withReady, arriveModel, arriveInFrontModel, withLinks, waitModel, leaveModelIn, ran, runModel, runFirstModel, chooseNextModel}
 use Rattle.rules.specs.Queues.{QueueSet, First, nobody, somebody, toBack, toFront, firstLeaves}
 use Rattle.rules.specs.State.{Where, running, ready, forMutex, onCondition, waits, Rows, Sets, Scheduler, noThread, thread, priority, withThreads, stand, setAt, putSet, firstAt, arrive, arriveInFront, depart}
@@ -80,20 +81,27 @@ module _ (k : Rows) (s : Sets) (t : ℕ) (there : t < length (k .threads)) (few 
 
 -- ---- leaving
 
-pub leave-stands : (k : Rows) (s : Sets) → Queued k s → length (k .threads) ≤ 32 → (w : Where) → Real k w → waits w ≡ true → (p : ℕ) → p < 16
-    → leaveModelIn (threadsOf k s) (queuesOf (setAt s w)) p ≡ record { threads = threadsOf k (putSet s w (firstLeaves (setAt s w) p)); set = queuesOf (firstLeaves (setAt s w) p) }
-unfolding leaveModelIn
-leave-stands k s q few w r z p small = ap (λ (j : Joined). record { threads = withLinks (threadsOf k s) (j .links); set = j .set }) parted
-    ∙ ap (λ x. record { threads = x; set = queuesOf (firstLeaves (setAt s w) p) }) (go w z)
-  where
-    parted : departModel (threadsOf k s .links) (queuesOf (setAt s w)) p ≡ standing s w (firstLeaves (setAt s w) p)
-    parted = unfold threadsOf in (part-stands q few w r p small)
+-- the threads and the set at w once the queues x stand there
+abbrev pub waitingAt : Rows → Sets → Where → QueueSet → Waiting
+waitingAt k s w x = record { threads = threadsOf k (putSet s w x); set = queuesOf x }
 
-    go : (v : Where) → waits v ≡ true → withLinks (threadsOf k s) (linksOf (flatten (allSets (putSet s v (firstLeaves (setAt s v) p))))) ≡ threadsOf k (putSet s v (firstLeaves (setAt s v) p))
+-- whoever has left
+pub left-stands : (k : Rows) (s : Sets) (w : Where) → waits w ≡ true → (j : Joined) (x : QueueSet) → j ≡ standing s w x
+    → _≡_ {A = Waiting} (record { threads = withLinks (threadsOf k s) (j .links); set = j .set }) (waitingAt k s w x)
+left-stands k s w z j x e = ap (λ (y : Joined). record { threads = withLinks (threadsOf k s) (y .links); set = y .set }) e
+    ∙ ap (λ y. record { threads = y; set = queuesOf x }) (go w z)
+  where
+    go : (v : Where) → waits v ≡ true → withLinks (threadsOf k s) (linksOf (flatten (allSets (putSet s v x)))) ≡ threadsOf k (putSet s v x)
     go running y = absurd (false≢true y)
     go ready y = absurd (false≢true y)
     go (forMutex m) y = unfold threadsOf putSet in refl
     go (onCondition c) y = unfold threadsOf putSet in refl
+
+pub leave-stands : (k : Rows) (s : Sets) → Queued k s → length (k .threads) ≤ 32 → (w : Where) → Real k w → waits w ≡ true → (p : ℕ) → p < 16
+    → leaveModelIn (threadsOf k s) (queuesOf (setAt s w)) p ≡ record { threads = threadsOf k (putSet s w (firstLeaves (setAt s w) p)); set = queuesOf (firstLeaves (setAt s w) p) }
+unfolding leaveModelIn
+leave-stands k s q few w r z p small = left-stands k s w z (departModel (threadsOf k s .links) (queuesOf (setAt s w)) p) (firstLeaves (setAt s w) p)
+    (unfold threadsOf in (part-stands q few w r p small))
 
 -- ---- running
 

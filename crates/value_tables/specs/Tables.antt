@@ -8,7 +8,7 @@ use lib.Dec.{eqb, ltb, leb}
 use Rattle.queue.specs.declared.Links.{Links}
 use Rattle.queue.specs.declared.Linked.{Linked}
 use Rattle.queue.specs.declared.Queues.{Queues}
-use Rattle.queue.specs.Linking.{backModel, frontModel, leaveModel, levelModel, withLevelModel, highestModel}
+use Rattle.queue.specs.Linking.{backModel, frontModel, leaveModel, removeModel, levelModel, withLevelModel, highestModel}
 use Rattle.value_tables.specs.declared.Joined.{Joined}
 use Rattle.value_tables.specs.declared.Head.{Head}
 use Rattle.value_tables.specs.declared.Thread.{Thread}
@@ -31,6 +31,10 @@ joinFrontModel k s p t = joined s p (frontModel k (levelModel s p) t)
 -- the first of the queue of priority p leaves
 unfoldable pub departModel : Links → Queues → ℕ → Joined
 departModel k s p = joined s p (leaveModel k (levelModel s p))
+
+-- thread t leaves the queue of priority p from wherever it stands there
+unfoldable pub removeFromModel : Links → Queues → ℕ → ℕ → Joined
+removeFromModel k s p t = joined s p (removeModel k (levelModel s p) t)
 
 -- the first of the highest non-empty queue, with its priority
 unfoldable pub headModel : Queues → Head
@@ -82,6 +86,12 @@ waitModel x s t state object =
 unfoldable pub leaveModelIn : Threads → Queues → ℕ → Waiting
 leaveModelIn x s p =
     let j = departModel (x .links) s p in
+    record { threads = withLinks x (j .links); set = j .set }
+
+-- thread t leaves the queue of priority p in a set from wherever it stands there
+unfoldable pub removeModelIn : Threads → Queues → ℕ → ℕ → Waiting
+removeModelIn x s p t =
+    let j = removeFromModel (x .links) s p t in
     record { threads = withLinks x (j .links); set = j .set }
 
 -- the threads, and which one runs

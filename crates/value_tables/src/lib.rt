@@ -11,7 +11,7 @@ use limits::THREADS;
 use queue::Links;
 use queue::Queues;
 ghost use mathlib.Core.Path.{_≡_};
-ghost use Rattle.value_tables.specs.Tables.{joinModel, joinFrontModel, departModel, headModel, standModel, liftModel, arriveModel, arriveInFrontModel, runFirstModel, chooseNextModel, waitModel, leaveModelIn};
+ghost use Rattle.value_tables.specs.Tables.{joinModel, joinFrontModel, departModel, removeFromModel, headModel, standModel, liftModel, arriveModel, arriveInFrontModel, runFirstModel, chooseNextModel, waitModel, leaveModelIn, removeModelIn};
 
 // Links, and one set of queues.
 pub struct Joined {
@@ -92,6 +92,17 @@ fn depart(links: Links, set: Queues, p: u8) -> Joined
 {
     let queue = set.level(p);
     let linked = links.leave(queue);
+    let after = linked.links;
+    let set = set.with_level(p, linked.queue);
+    Joined { links: after, set }
+}
+
+// Thread t leaves the queue of priority p from wherever it stands there.
+fn remove(links: Links, set: Queues, p: u8, t: u8) -> Joined
+    ensures { λ r. ⌜ r ≡ removeFromModel links set p t ⌝ }
+{
+    let queue = set.level(p);
+    let linked = links.remove(queue, t);
     let after = linked.links;
     let set = set.with_level(p, linked.queue);
     Joined { links: after, set }
@@ -192,6 +203,20 @@ impl Threads {
         let departed = depart(self.links, set, p);
         let links = departed.links;
         let after = departed.set;
+        self.links = links;
+        Waiting {
+            threads: self,
+            set: after,
+        }
+    }
+
+    // Thread t leaves the queue of priority p in a set of queues from wherever it stands there.
+    pub fn remove(mut self, set: Queues, p: u8, t: u8) -> Waiting
+        ensures { λ r. ⌜ r ≡ removeModelIn self set p t ⌝ }
+    {
+        let removed = remove(self.links, set, p, t);
+        let links = removed.links;
+        let after = removed.set;
         self.links = links;
         Waiting {
             threads: self,

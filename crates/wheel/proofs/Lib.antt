@@ -1,6 +1,7 @@
 pub mod Promise
 pub mod Theorems
 mod Lefts
+mod Words
 mod Turning
 mod Visits
 mod Walk
@@ -10,3 +11,4 @@ mod Dues
 mod Laws
 mod Filling
 mod Same
+mod Emptying

@@ -1,5 +1,5 @@
 -- The wheel's promise, as laws of the names of specs/Promise.antt: what start, stop, a tick and the ticks left come to on a wheel that hangs as ticks
--- left say, who comes due and in which order, that good ticks left stay good, and when two wheels are one.
+-- left say, who comes due and in which order, that good ticks left stay good, and when two wheels are one, or the words that they stand in.
 -- Whoever uses the wheel cites these and nothing else of its proofs.
 -- Assumes nothing.
 use Prim.Native.Nat.{ℕ, suc, _-_, _%_, _<_, _≤_}
@@ -16,10 +16,12 @@ use Rattle.laws.proofs.Bits.{members-word, among-length}
 use Rattle.laws.proofs.Same.{exactly}
 use Rattle.wheel.specs.declared.Wheel.{Wheel}
 use Rattle.wheel.specs.declared.Due.{Due}
+use Rattle.wheel.specs.declared.Ticked.{Ticked}
+use Rattle.wheel.specs.declared.Turned.{Turned}
 use Rattle.wheel.specs.Hung.{Hung, Good, left, empty, started, stopped, ticked, due, filled, spokeOf, turnsOf}
-use Rattle.wheel.specs.Inside.{lastTick, hungIn, takenIn, wayIn, turnedIn}
-use Rattle.wheel.specs.Promise.{wheelOf, startedIn, stoppedIn, leftIn, tickedIn, tickedOf, positionIn, sameWheel, spokeIn, turnsIn, idsOf, dueOf}
-use Rattle.wheel.specs.Promise.Opened.{wheel-is, started-is, stopped-is, left-is, ticked-is, position-is, same-is, spoke-is, turns-are, ids-are, due-is}
+use Rattle.wheel.specs.Inside.{made, lastTick, turnsAt, spokeAt, positionAt, hungIn, takenIn, wayIn, turnedIn}
+use Rattle.wheel.specs.Promise.{wheelOf, startedIn, stoppedIn, leftIn, tickedIn, tickedOf, positionIn, sameWheel, spokeIn, turnsIn, wheelIn, tickedWith, idsOf, dueOf}
+use Rattle.wheel.specs.Promise.Opened.{wheel-is, started-is, stopped-is, left-is, ticked-is, position-is, same-is, spoke-is, turns-are, words-are, ids-are, due-is}
 use Rattle.wheel.proofs.Lefts as lefts
 use Rattle.wheel.proofs.Hanging.{start-inside, stop-inside, left-inside, position-at, spoke-at, turns-at}
 use Rattle.wheel.proofs.Ticking.{tick-inside}
@@ -59,33 +61,33 @@ fill-next p row k l = filling.fill-next p row k l
 module _ (h : Hung) (g : Good h) where
   -- a timer started
   pub start-hangs : (i n : ℕ) → startedIn (wheelOf h) i n ≡ wheelOf (started h i n)
-  start-hangs i n = started-is (wheelOf h) i n ∙ ap (λ (w : Wheel). hungIn w i n) (wheel-is h) ∙ start-inside h g i n ∙ sym (wheel-is (started h i n))
+  start-hangs i n = started-is (wheelOf h) i n ∙ ap (λ (w : Wheel). made (hungIn (w .words) i n)) (wheel-is h) ∙ ap made (start-inside h g i n) ∙ sym (wheel-is (started h i n))
 
   -- a timer stopped
   pub stop-hangs : (i : ℕ) → stoppedIn (wheelOf h) i ≡ wheelOf (stopped h i)
-  stop-hangs i = stopped-is (wheelOf h) i ∙ ap (λ (w : Wheel). takenIn w i) (wheel-is h) ∙ stop-inside h g i ∙ sym (wheel-is (stopped h i))
+  stop-hangs i = stopped-is (wheelOf h) i ∙ ap (λ (w : Wheel). made (takenIn (w .words) i)) (wheel-is h) ∙ ap made (stop-inside h g i) ∙ sym (wheel-is (stopped h i))
 
   -- the ticks left
   pub left-hung : (i : ℕ) → leftIn (wheelOf h) i ≡ left h i
-  left-hung i = left-is (wheelOf h) i ∙ ap (λ (w : Wheel). wayIn w i) (wheel-is h) ∙ left-inside h g i
+  left-hung i = left-is (wheelOf h) i ∙ ap (λ (w : Wheel). wayIn (w .words) i) (wheel-is h) ∙ left-inside h g i
 
   -- a tick
   pub tick-hangs : tickedIn (wheelOf h) ≡ tickedOf h
   unfolding tickedOf
-  tick-hangs = ticked-is (wheelOf h) ∙ ap turnedIn (wheel-is h) ∙ tick-inside h g ∙ rw (wheel-is (ticked h), due-is h)
+  tick-hangs = ticked-is (wheelOf h) ∙ ap (λ (w : Wheel). turnedIn (w .words)) (wheel-is h) ∙ tick-inside h g ∙ rw (wheel-is (ticked h), due-is h)
 
 module _ (h : Hung) where
   -- the position
   pub position-hung : positionIn (wheelOf h) ≡ h .position
-  position-hung = position-is (wheelOf h) ∙ ap (λ (w : Wheel). w .position) (wheel-is h) ∙ position-at h
+  position-hung = position-is (wheelOf h) ∙ ap (λ (w : Wheel). positionAt (w .words)) (wheel-is h) ∙ position-at h
 
   -- the spoke of a timer
   pub spoke-hung : (i : ℕ) → i < 32 → spokeIn (wheelOf h) i ≡ spokeOf (h .position) (left h i)
-  spoke-hung i l = spoke-is (wheelOf h) i ∙ ap (λ (w : Wheel). getD (w .spoke) i 0) (wheel-is h) ∙ spoke-at h i l
+  spoke-hung i l = spoke-is (wheelOf h) i ∙ ap (λ (w : Wheel). spokeAt (w .words) i) (wheel-is h) ∙ spoke-at h i l
 
   -- the turns left to a timer
   pub turns-hung : (i : ℕ) → i < 32 → turnsIn (wheelOf h) i ≡ turnsOf (left h i)
-  turns-hung i l = turns-are (wheelOf h) i ∙ ap (λ (w : Wheel). getD (w .turns) i 0) (wheel-is h) ∙ turns-at h i l
+  turns-hung i l = turns-are (wheelOf h) i ∙ ap (λ (w : Wheel). turnsAt (w .words) i) (wheel-is h) ∙ turns-at h i l
 
 -- ---- who comes due
 
@@ -103,6 +105,14 @@ ids-few d = rw (ids-are d) (among-length 32 (λ i. holds i (d .ids)))
 -- the test tells
 pub same-exactly : (w v : Wheel) → (sameWheel w v ≡ true) ↔ (w ≡ v)
 same-exactly w v = exactly wheels w v (sameWheel w v) (same-is w v)
+
+-- words stand for one wheel each, whole: no bit of them is left open
+pub words-once : (k z : List ℕ) → wheelIn k ≡ wheelIn z → k ≡ z
+words-once k z e = ap (λ (w : Wheel). w .words) (sym (words-are k) ∙ e ∙ words-are z)
+
+-- and so does what a tick leaves of them, with what it gives
+pub turned-once : (k z : List ℕ) (r q : Turned) → tickedWith (wheelIn k) r ≡ tickedWith (wheelIn z) q → (k ≡ z) × (r ≡ q)
+turned-once k z r q e = (words-once k z (ap (λ (t : Ticked). t .wheel) e), λ i. record { due = e i .due; visits = e i .visits })
 
 -- a good wheel tells its position and its ticks left
 told : (h k : Hung) → Good h → Good k → positionIn (wheelOf h) ≡ positionIn (wheelOf k)

@@ -5,6 +5,7 @@ use mathlib.Core.Path.{_≡_, refl, sym, ap}
 use mathlib.Core.Bool.{xor}
 use native.Mathlib.Omega.{arith}
 use lib.ListN.{length, getD, set}
+use lib.Seq.{getD-set-other}
 use lib.Dec.{eqb, ltb}
 use lib.Bits.{bitXor}
 use borrow.Author.Tests.{lt-ltb}
@@ -13,11 +14,12 @@ use Rattle.laws.specs.Bits.{wordOf, members}
 use Rattle.laws.proofs.Lists.{getD-tabulate, set-tabulate-below, tabulate-below}
 use Rattle.laws.proofs.Bits.{word-same, xor-words, members-word}
 use Rattle.wheel.specs.Hung.{Hung, Good, left, ticked, spokeOf, turnsOf, hangs, onNext}
-use Rattle.wheel.specs.Inside.{tablesOf, lastTick, midst, moved, cleared, turnedIn}
+use Rattle.wheel.specs.Inside.{laid, tablesOf, wordsOf, made, lastTick, nextAt, midst, moved, cleared, turnedAt, turnedIn}
 use Rattle.wheel.proofs.Lefts.{left-ticked}
+use Rattle.wheel.proofs.Words.{sized, withPosition, word-at, word-put, position-put}
 use Rattle.wheel.proofs.Turning.{ends, kept, others, spoke-after, turns-after}
-use Rattle.wheel.proofs.Visits.{visited-below, begun, turn, atEnd, home, After}
-use Rattle.wheel.proofs.Hanging.{spoke-word, hangs-at}
+use Rattle.wheel.proofs.Visits.{visited-below, begun, turn, atEnd, home, tablesAfter, sized-after, After}
+use Rattle.wheel.proofs.Hanging.{position-at, spoke-word, hangs-at}
 
 -- the turns left to a timer, and its spoke
 abbrev turnsNow : Hung → ℕ → ℕ
@@ -27,12 +29,19 @@ abbrev spokeNow : Hung → ℕ → ℕ
 spokeNow h i = spokeOf (h .position) (left h i)
 
 module _ (h : Hung) (g : Good h) (u : ℕ) (next : u ≡ (h .position + 1) % 64) where
-  -- the wheel as the visits begin
-  begins : midst (moved (tablesOf h)) 0 0 ≡ After (tablesOf h .spokes) u (hangs h u) (turnsNow h) (spokeNow h) 0
-  unfolding moved tablesOf
-  begins =
-      let e : (h .position % 64 + 1) % 64 ≡ u = omega (arith, g .place) in
-      rw e (sym (begun (tablesOf h .spokes) u (hangs h u) (turnsNow h) (spokeNow h)))
+  -- the tick moves to the next spoke
+  moves : nextAt (wordsOf h) ≡ u
+  moves = rw (position-at h) (omega (arith, g .place))
+
+  -- the wheel there
+  moved-there : moved (wordsOf h) ≡ laid (withPosition (tablesOf h) u)
+  unfolding moved
+  moved-there = rw moves (position-put (tablesOf h) (sized h) u)
+
+  -- as the visits begin
+  begins : midst (laid (withPosition (tablesOf h) u)) 0 0 ≡ After (tablesOf h .spokes) u (hangs h u) (turnsNow h) (spokeNow h) 0
+  unfolding tablesOf
+  begins = sym (begun (tablesOf h .spokes) u (hangs h u) (turnsNow h) (spokeNow h))
 
   -- a timer that is seen at its end is one with one tick left
   end-is-one : (i : ℕ) → i < 32 → atEnd (hangs h u) (turnsNow h) (ltb i 32) i ≡ eqb (left h i) 1
@@ -85,38 +94,35 @@ module _ (h : Hung) (g : Good h) (u : ℕ) (next : u ≡ (h .position + 1) % 64)
   visits-next = ap (λ (s : ℕ). length (among 32 (hangs h s))) next
 
   -- those that came due taken off, the visits come to the tick
-  clears : cleared (After (tablesOf h .spokes) u (hangs h u) (turnsNow h) (spokeNow h) 32) ≡ record { wheel = tablesOf (ticked h); due = lastTick h; visits = onNext h }
+  clears : cleared u (After (tablesOf h .spokes) u (hangs h u) (turnsNow h) (spokeNow h) 32) ≡ record { wheel = made (wordsOf (ticked h)); due = lastTick h; visits = onNext h }
   unfolding cleared After
   clears =
-      rw (due-word, spokes-after, turns-table, spoke-table)
+      let t = tablesAfter (tablesOf h .spokes) u (hangs h u) (turnsNow h) (spokeNow h) 32 in
+      let f = sized-after (tablesOf h .spokes) u (hangs h u) (turnsNow h) (spokeNow h) (sized h .spokes) 32 in
+      let m : u < 64 = omega arith in
+      rw (due-word, word-at t f u m, word-put t f u (bitXor (getD (tablesOf h .spokes) u 0) (lastTick h .ids)) m, spokes-after, turns-table, spoke-table)
       (λ x. record {
-        wheel = record {
-          spokes = tablesOf (ticked h) .spokes;
-          turns = tablesOf (ticked h) .turns;
-          spoke = tablesOf (ticked h) .spoke;
-          position = position-table x;
-        };
+        wheel = made (laid (withPosition (tablesOf (ticked h)) (position-table x)));
         due = lastTick h;
         visits = visits-next x;
       })
 
-  -- the tick moves to the next spoke
-  moves : moved (tablesOf h) .position ≡ u
-  unfolding moved tablesOf
-  moves = omega (arith, g .place)
+  -- the timers to visit are those that hang there
+  next-members : members 32 (getD (moved (wordsOf h)) u 0) ≡ among 32 (hangs h u)
+  unfolding moved
+  next-members =
+      rw (getD-set-other (wordsOf h) 128 u (nextAt (wordsOf h)) 0 (λ e. omega arith), spoke-word h u (omega arith)) (members-word 32 (hangs h u))
 
-  -- whose members are the timers that hang there
-  next-members : members 32 (getD (tablesOf h .spokes) (moved (tablesOf h) .position) 0) ≡ among 32 (hangs h u)
-  next-members = rw (moves, spoke-word h u (omega arith)) (members-word 32 (hangs h u))
-
--- a tick of the tables is a tick
-pub tick-inside : (h : Hung) → Good h → turnedIn (tablesOf h) ≡ record { wheel = tablesOf (ticked h); due = lastTick h; visits = onNext h }
-unfolding turnedIn
+-- a tick in the words is a tick
+pub tick-inside : (h : Hung) → Good h → turnedIn (wordsOf h) ≡ record { wheel = made (wordsOf (ticked h)); due = lastTick h; visits = onNext h }
+unfolding turnedIn turnedAt
 tick-inside h g =
     let u : ℕ = (h .position + 1) % 64 in
     rw (
+      moves h g u refl,
       next-members h g u refl,
+      moved-there h g u refl,
       begins h g u refl,
-      visited-below (tablesOf h .spokes) u (hangs h u) (turnsNow h) (spokeNow h) 32 (omega arith),
+      visited-below (tablesOf h .spokes) u (hangs h u) (turnsNow h) (spokeNow h) (sized h .spokes) 32 (omega arith),
     )
     (clears h g u refl)

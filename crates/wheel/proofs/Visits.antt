@@ -1,5 +1,5 @@
 -- What a visit of the timers on a spoke comes to: each of them has a turn less, and those with none left are stopped and due.
--- The wheel is given by functions of the id: who hangs there, the turns, the spokes.
+-- The tables are given by functions of the id: who hangs there, the turns, the spokes.
 -- Assumes nothing.
 use Prim.Native.Nat.{ℕ, zero, suc, _+_, _-_, _<_, _≤_}
 use mathlib.Core.Path.{_≡_, refl, sym, _∙_}
@@ -13,10 +13,11 @@ use borrow.Author.Tests.{eq-eqb, ne-eqb, eqb-true, eqb-false, lt-ltb, le-ltb, lt
 use Rattle.laws.specs.Lists.{tabulate, among, put}
 use Rattle.laws.specs.Bits.{wordOf}
 use Rattle.laws.proofs.Bools.{by-cases, or-false, or-right}
-use Rattle.laws.proofs.Lists.{getD-tabulate, set-tabulate-below, tabulate-below}
+use Rattle.laws.proofs.Lists.{length-tabulate, getD-tabulate, set-tabulate-below, tabulate-below}
 use Rattle.laws.proofs.Bits.{word-same, word-none, word-one, or-words, among-next}
 use Rattle.wheel.specs.declared.Ticked.{Ticked}
-use Rattle.wheel.specs.Inside.{bitOf, midst, visit, visited}
+use Rattle.wheel.specs.Inside.{Tables, laid, bitOf, midst, visit, visited}
+use Rattle.wheel.proofs.Words.{Sized, turns-at, turns-put, spoke-put}
 
 -- the bit of an id that is one of the 32 is a word of that id alone
 pub bit-word : (i : ℕ) → i < 32 → bitOf i ≡ wordOf 32 (λ j. eqb j i)
@@ -87,21 +88,22 @@ abbrev pub home : (ℕ → Bool) → (ℕ → ℕ) → (ℕ → ℕ) → Bool �
 home q T S seen i = cond (atEnd q T seen i) 255 (S i)
 
 module _ (spokes : List ℕ) (position : ℕ) (q : ℕ → Bool) (T S : ℕ → ℕ) where
-  -- the wheel after the visits of the timers below k
-  unfoldable pub After : ℕ → Ticked
-  After k =
-      midst
-      (record {
+  -- the tables after the visits of the timers below k
+  abbrev pub tablesAfter : ℕ → Tables
+  tablesAfter k =
+      record {
         spokes = spokes;
         turns = tabulate 32 (λ i. turn q T (ltb i k) i);
         spoke = tabulate 32 (λ i. home q T S (ltb i k) i);
         position = position;
-      })
-      (wordOf 32 (λ i. atEnd q T (ltb i k) i))
-      (length (among k q))
+      }
+
+  -- with them, who came due and how many were visited
+  unfoldable pub After : ℕ → Ticked
+  After k = midst (laid (tablesAfter k)) (wordOf 32 (λ i. atEnd q T (ltb i k) i)) (length (among k q))
 
   -- before any visit
-  pub begun : After 0 ≡ midst (record { spokes = spokes; turns = tabulate 32 T; spoke = tabulate 32 S; position = position }) 0 0
+  pub begun : After 0 ≡ midst (laid (record { spokes = spokes; turns = tabulate 32 T; spoke = tabulate 32 S; position = position })) 0 0
   unfolding After among
   begun =
       let z : (i : ℕ) → ltb i 0 ≡ false = λ i. le-ltb i 0 (omega arith) in
@@ -128,43 +130,52 @@ module _ (spokes : List ℕ) (position : ℕ) (q : ℕ → Bool) (T S : ℕ → 
         length-none k e,
       )
 
-  -- one with no turn left is stopped, and due
-  ended : (k : ℕ) → k < 32 → q k ≡ true → T k ≡ 0 → visit (After k) k ≡ After (suc k)
-  unfolding After visit
-  ended k h e z =
-      let a : eqb (T k) 0 ≡ true = eq-eqb _ _ z in
-      rw (
-        at-k (turn q T) k 0 h,
-        a,
-        unchanged (turn q T) k (rw e (omega arith)),
-        changed (home q T S) k h 255 (rw (e, a)),
-        word-changed (atEnd q T) k h (rw (e, a)),
-        length-one k e,
-      )
+  module _ (many : length spokes ≡ 64) where
+    -- the tables are as long as tables are
+    pub sized-after : (k : ℕ) → Sized (tablesAfter k)
+    sized-after k = record { spokes = many; turns = length-tabulate 32 _; spoke = length-tabulate 32 _ }
 
-  -- one with a turn left has one less
-  turned : (k : ℕ) → k < 32 → q k ≡ true → (T k ≡ 0 → ⊥) → visit (After k) k ≡ After (suc k)
-  unfolding After visit
-  turned k h e z =
-      let a : eqb (T k) 0 ≡ false = ne-eqb _ _ z in
-      rw (
-        at-k (turn q T) k 0 h,
-        a,
-        changed (turn q T) k h (T k - 1) (rw e),
-        unchanged (home q T S) k (rw (e, a)),
-        word-unchanged (atEnd q T) k (rw (e, a)),
-        length-one k e,
-      )
+    -- one with no turn left is stopped, and due
+    ended : (k : ℕ) → k < 32 → q k ≡ true → T k ≡ 0 → visit (After k) k ≡ After (suc k)
+    unfolding After visit
+    ended k h e z =
+        let a : eqb (T k) 0 ≡ true = eq-eqb _ _ z in
+        rw (
+          turns-at (tablesAfter k) (sized-after k) k h,
+          at-k (turn q T) k 0 h,
+          a,
+          spoke-put (tablesAfter k) (sized-after k) k 255 h,
+          unchanged (turn q T) k (rw e (omega arith)),
+          changed (home q T S) k h 255 (rw (e, a)),
+          word-changed (atEnd q T) k h (rw (e, a)),
+          length-one k e,
+        )
 
-  -- a timer on the spoke visited
-  seen : (k : ℕ) → k < 32 → q k ≡ true → visit (After k) k ≡ After (suc k)
-  seen k h e =
-      by-cases (eqb (T k) 0) (λ z. ended k h e (eqb-true _ _ z)) (λ z. turned k h e (eqb-false _ _ z))
+    -- one with a turn left has one less
+    turned : (k : ℕ) → k < 32 → q k ≡ true → (T k ≡ 0 → ⊥) → visit (After k) k ≡ After (suc k)
+    unfolding After visit
+    turned k h e z =
+        let a : eqb (T k) 0 ≡ false = ne-eqb _ _ z in
+        rw (
+          turns-at (tablesAfter k) (sized-after k) k h,
+          at-k (turn q T) k 0 h,
+          a,
+          turns-put (tablesAfter k) (sized-after k) k (T k - 1) h,
+          changed (turn q T) k h (T k - 1) (rw e),
+          unchanged (home q T S) k (rw (e, a)),
+          word-unchanged (atEnd q T) k (rw (e, a)),
+          length-one k e,
+        )
 
-  -- the timers of the spoke below k visited, in order of id
-  pub visited-below : (k : ℕ) → k ≤ 32 → visited (among k q) (After 0) ≡ After k
-  unfolding among visited
-  visited-below zero h = refl
-  visited-below (suc k) h =
-      rw (among-next k q, visited-append (among k q) (put (q k) k) (After 0), visited-below k (omega arith))
-      (by-cases (q k) (λ e. rw e (seen k h e)) (λ e. rw e (passed k e)))
+    -- a timer on the spoke visited
+    seen : (k : ℕ) → k < 32 → q k ≡ true → visit (After k) k ≡ After (suc k)
+    seen k h e =
+        by-cases (eqb (T k) 0) (λ z. ended k h e (eqb-true _ _ z)) (λ z. turned k h e (eqb-false _ _ z))
+
+    -- the timers of the spoke below k visited, in order of id
+    pub visited-below : (k : ℕ) → k ≤ 32 → visited (among k q) (After 0) ≡ After k
+    unfolding among visited
+    visited-below zero h = refl
+    visited-below (suc k) h =
+        rw (among-next k q, visited-append (among k q) (put (q k) k) (After 0), visited-below k (omega arith))
+        (by-cases (q k) (λ e. rw e (seen k h e)) (λ e. rw e (passed k e)))

@@ -1,19 +1,20 @@
-// Counts the work of a tick, the timers that it visits, with timers on the spoke that it visits, due or with a turn left, and on another.
+// Counts the work of a tick of a lent wheel, the timers that it visits, with timers on the spoke that it visits, due or with a turn left, and on another.
 // The work is the number of timers on that spoke, however many hang elsewhere.
 use libc::STDOUT_FILENO;
 use limits::TIMERS;
 use units::Ticks;
-use wheel::Wheel;
+use wheel::WheelWords;
+use wheel::empty_words;
+use wheel::start;
+use wheel::tick;
 
 // The timers from one id up to another started for n ticks.
-fn started(wheel: Wheel, from: u8, to: u8, n: Ticks) -> Wheel {
-    let mut wheel = wheel;
+fn start_some(wheel: &mut WheelWords, from: u8, to: u8, n: Ticks) {
     let mut id = from;
     while id < to {
-        wheel = wheel.start(id, n);
+        start(wheel, id, n);
         id += 1;
     }
-    wheel
 }
 
 // A number and the byte after it.
@@ -25,14 +26,14 @@ fn write_number(n: u8, after: u8) {
 
 // A line: the timers below `due` come due at the tick, those below `on` have a turn left, those below `all` hang on another spoke.
 fn write_line(due: u8, on: u8, all: u8) {
-    let empty = Wheel::empty(0);
-    let some = started(empty, 0, due, Ticks(1));
-    let more = started(some, due, on, Ticks(65));
-    let every = started(more, on, all, Ticks(2));
-    let ticked = every.tick();
+    let mut wheel = empty_words(0);
+    start_some(&mut wheel, 0, due, Ticks(1));
+    start_some(&mut wheel, due, on, Ticks(65));
+    start_some(&mut wheel, on, all, Ticks(2));
+    let turned = tick(&mut wheel);
     write_number(on, b' ');
     write_number(all, b' ');
-    write_number(ticked.visits, b'\n');
+    write_number(turned.visits, b'\n');
 }
 
 fn main() {

@@ -2,16 +2,17 @@
 use Prim.Native.Nat.{_-_, min}
 use mathlib.Core.Path.{refl}
 use borrow.Author.Needs.{needs}
+use Rattle.place_tables.specs.Cells.{schedulerIn}
 use Rattle.page_building.specs.Building.{arrivedBelow, arrivedPlaces}
 use Rattle.page_building.proofs.Turns.{Going, going-starts, going-turns, going-ends}
 use Rattle.page_building.proofs.arrive_all.Statement.{statement}
 use Rattle.page_building.proofs.arrive_all.Tie as tie
 
 abbrev Inv-loop : tie.InvT-loop
-Inv-loop rows n made₀ most place₀ made place = Going 32 (λ k. arrivedPlaces rows (min n 32) k made₀) n most place made
+Inv-loop cells₀ rows n most place₀ cells place = Going 32 (λ k. arrivedPlaces rows (min n 32) k (schedulerIn cells₀)) n most place (schedulerIn cells)
 
 abbrev μ-loop : tie.MeasureT-loop
-μ-loop rows n made₀ most place₀ made place = most - place
+μ-loop cells₀ rows n most place₀ cells place = most - place
 
 smaller-requires : tie.Need-smaller-requires Inv-loop μ-loop
 smaller-requires c κs = search needs
@@ -30,7 +31,7 @@ loop-less c = search needs
 
 loop-again : tie.Need-loop-again Inv-loop μ-loop
 loop-again c =
-    let at-loop-test = c .before in
+    let at-loop-test = c .before .before in
     let at-loop = at-loop-test .before in
     let at-entry = at-loop .before .before in
     let l = at-loop .loop in

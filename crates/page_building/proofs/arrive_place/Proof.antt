@@ -3,6 +3,7 @@ use Prim.Native.Nat.{_-_}
 use mathlib.Core.Path.{refl}
 use borrow.Author.Needs.{needs}
 use lib.ListN.{getD}
+use Rattle.place_tables.specs.Cells.{schedulerIn}
 use Rattle.page.specs.Says.{noThreadRow}
 use Rattle.page_building.specs.Building.{arrivedOne, arrivedBelow}
 use Rattle.page_building.proofs.Turns.{Going, going-starts, going-turns, going-ends}
@@ -10,10 +11,10 @@ use Rattle.page_building.proofs.arrive_place.Statement.{statement}
 use Rattle.page_building.proofs.arrive_place.Tie as tie
 
 abbrev Inv-loop : tie.InvT-loop
-Inv-loop n place rows made₀ most t₀ made t = Going 32 (λ k. arrivedBelow rows place k made₀) n most t made
+Inv-loop cells₀ n place rows most t₀ cells t = Going 32 (λ k. arrivedBelow rows place k (schedulerIn cells₀)) n most t (schedulerIn cells)
 
 abbrev μ-loop : tie.MeasureT-loop
-μ-loop n place rows made₀ most t₀ made t = most - t
+μ-loop cells₀ n place rows most t₀ cells t = most - t
 
 smaller-requires : tie.Need-smaller-requires Inv-loop μ-loop
 smaller-requires c κs = search needs
@@ -41,7 +42,7 @@ loop-less c = search needs
 
 loop-again : tie.Need-loop-again Inv-loop μ-loop
 loop-again c =
-    let at-loop-test = c .before .before in
+    let at-loop-test = c .before .before .before in
     let at-loop = at-loop-test .before in
     let at-entry = at-loop .before .before in
     let l = at-loop .loop in

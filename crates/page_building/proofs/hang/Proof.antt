@@ -3,8 +3,7 @@ use Prim.Native.Nat.{_-_}
 use mathlib.Core.Path.{refl}
 use borrow.Author.Needs.{needs}
 use lib.ListN.{getD}
-use Rattle.wheel.specs.Hung.{empty}
-use Rattle.wheel.specs.Promise.{wheelOf, startedIn}
+use Rattle.wheel.specs.Promise.{wheelIn, startedIn}
 use Rattle.page.specs.Says.{noTimerRow}
 use Rattle.page_building.specs.Building.{hungBelow}
 use Rattle.page_building.proofs.Turns.{Going, going-starts, going-turns, going-ends}
@@ -12,19 +11,16 @@ use Rattle.page_building.proofs.hang.Statement.{statement}
 use Rattle.page_building.proofs.hang.Tie as tie
 
 abbrev Inv-loop : tie.InvT-loop
-Inv-loop n count rows wheel₀ most id₀ wheel id = Going 32 (λ k. hungBelow rows k (wheelOf (empty count))) n most id wheel
+Inv-loop wheel₀ n rows most id₀ wheel id = Going 32 (λ k. hungBelow rows k (wheelIn wheel₀)) n most id (wheelIn wheel)
 
 abbrev μ-loop : tie.MeasureT-loop
-μ-loop n count rows wheel₀ most id₀ wheel id = most - id
-
-empty-requires : tie.Need-empty-requires Inv-loop μ-loop
-empty-requires c κs = search needs
+μ-loop wheel₀ n rows most id₀ wheel id = most - id
 
 smaller-requires : tie.Need-smaller-requires Inv-loop μ-loop
 smaller-requires c κs = search needs
 
 loop-holds : tie.Need-loop-holds Inv-loop μ-loop
-loop-holds c = going-starts 32 _ _ _ _ (c .smaller .ensures) (unfold hungBelow in (c .before .empty .ensures))
+loop-holds c = going-starts 32 _ _ _ _ (c .smaller .ensures) (unfold hungBelow in refl)
 
 cast-i : tie.Need-cast-i Inv-loop μ-loop
 cast-i c = search needs
@@ -46,11 +42,11 @@ loop-less c = search needs
 
 loop-again : tie.Need-loop-again Inv-loop μ-loop
 loop-again c =
-    let at-loop-test = c .before .before in
+    let at-loop-test = c .before .before .before in
     let at-loop = at-loop-test .before in
-    let at-entry = at-loop .before .before .before in
+    let at-entry = at-loop .before .before in
     let l = at-loop .loop in
-    going-turns 32 _ _ _ _ _ _ (λ w. startedIn w (l .id) (getD (at-entry .args .t1) (l .id) noTimerRow .left .0)) (l .inv) (at-loop-test .loop-test .taken) (c .start .ensures .0) (unfold hungBelow in refl)
+    going-turns 32 _ _ _ _ _ _ (λ w. startedIn w (l .id) (getD (at-entry .args .t2) (l .id) noTimerRow .left .0)) (l .inv) (at-loop-test .loop-test .taken) (c .start .ensures .0) (unfold hungBelow in refl)
 
 returns : tie.Need-returns Inv-loop μ-loop
 returns c = going-ends 32 _ _ _ _ _ (c .before .loop .inv) (c .loop-test .left)
@@ -61,7 +57,6 @@ hang-spec =
     (tie.spec
     Inv-loop
     μ-loop
-    empty-requires
     smaller-requires
     loop-holds
     cast-i

@@ -5,15 +5,15 @@ use native.Mathlib.Nat.{zero-add}
 use borrow.Author.Needs.{needs}
 use Rattle.queue.specs.Linking.{walk, readModel}
 use Rattle.rules.specs.Page.{ahead}
-use Rattle.page_describing.proofs.Ahead.{Counting, count-ends, count-full, count-met, count-more}
+use Rattle.page_describing.proofs.Ahead.{nextIn, Counting, count-ends, count-full, count-met, count-more}
 use Rattle.page_describing.proofs.ahead_of.Statement.{statement}
 use Rattle.page_describing.proofs.ahead_of.Tie as tie
 
 abbrev Inv-loop : tie.InvT-loop
-Inv-loop t links count₀ here₀ count here = Counting (links .next) t (ahead t (walk (links .next) 32 here₀)) count here
+Inv-loop cells t count₀ here₀ count here = Counting (nextIn cells) t (ahead t (walk (nextIn cells) 32 here₀)) count here
 
 abbrev μ-loop : tie.MeasureT-loop
-μ-loop t links count₀ here₀ count here = 32 - count
+μ-loop cells t count₀ here₀ count here = 32 - count
 
 loop-holds : tie.Need-loop-holds Inv-loop μ-loop
 loop-holds c = (omega arith, zero-add _)
@@ -30,11 +30,8 @@ returns-2 c =
     let at-loop = at-loop-test .before in
     count-met _ _ _ _ _ (at-loop .loop .inv) (at-loop-test .loop-test .taken) (at-if1 .if1 .left) (c .if2 .taken)
 
-cast-i : tie.Need-cast-i Inv-loop μ-loop
-cast-i c = search needs
-
-element-copy-out-here : tie.Need-element-copy-out-here Inv-loop μ-loop
-element-copy-out-here c = search needs
+link-at-requires : tie.Need-link-at-requires Inv-loop μ-loop
+link-at-requires c κs = search needs
 
 add-count : tie.Need-add-count Inv-loop μ-loop
 add-count c = search needs
@@ -48,7 +45,7 @@ loop-again c =
     let at-if1 = at-if2 .before in
     let at-loop-test = at-if1 .before in
     let at-loop = at-loop-test .before in
-    count-more _ _ _ _ _ (at-loop .loop .inv) (at-loop-test .loop-test .taken) (at-if1 .if1 .left) (at-if2 .if2 .left)
+    count-more _ _ _ _ _ (at-loop .loop .inv) _ (at-loop-test .loop-test .taken) (at-if1 .if1 .left) (at-if2 .if2 .left) (c .link-at .ensures)
 
 returns-3 : tie.Need-returns-3 Inv-loop μ-loop
 unfolding readModel
@@ -63,8 +60,7 @@ ahead-of-spec =
     loop-holds
     returns
     returns-2
-    cast-i
-    element-copy-out-here
+    link-at-requires
     add-count
     loop-less
     loop-again

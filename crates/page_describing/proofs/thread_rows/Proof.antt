@@ -5,6 +5,7 @@ use native.Mathlib.Omega.{arith}
 use lib.ListN.{set}
 use borrow.Author.Needs.{needs}
 use Rattle.rules.specs.Page.{noRow}
+use Rattle.place_tables.specs.Cells.{schedulerIn}
 use Rattle.page.specs.Says.{threadFor}
 use Rattle.page_describing.specs.Describing.{threadModel}
 use Rattle.laws.specs.Filling.{filled}
@@ -13,10 +14,10 @@ use Rattle.page_describing.proofs.thread_rows.Statement.{statement}
 use Rattle.page_describing.proofs.thread_rows.Tie as tie
 
 abbrev Inv-loop : tie.InvT-loop
-Inv-loop scheduler rows₀ t₀ rows t = (t ≤ 32) × (rows ≡ filled 32 (threadModel scheduler) (threadFor noRow) t)
+Inv-loop cells rows₀ t₀ rows t = (t ≤ 32) × (rows ≡ filled 32 (threadModel (schedulerIn cells)) (threadFor noRow) t)
 
 abbrev μ-loop : tie.MeasureT-loop
-μ-loop scheduler rows₀ t₀ rows t = 32 - t
+μ-loop cells rows₀ t₀ rows t = 32 - t
 
 loop-holds : tie.Need-loop-holds Inv-loop μ-loop
 loop-holds c = (omega arith, fill-none 32 _ _)

@@ -4,34 +4,30 @@ use mathlib.Core.Path.{_≡_, ap, _∙_}
 use native.Mathlib.Omega.{arith}
 use lib.ListN.{set}
 use borrow.Author.Needs.{needs}
-use Rattle.queue.proofs.Cases.{cases}
+use Rattle.wheel.specs.Promise.{wheelIn}
+use Rattle.place_clock.specs.Clock.{clockIn}
 use Rattle.page.specs.Says.{stoppedTimerRow, timerFor}
 use Rattle.page_describing.specs.Describing.{timerAt}
 use Rattle.laws.specs.Filling.{filled}
 use Rattle.laws.proofs.Filling.{fill-none, fill-next, fill-all}
+use Rattle.page_describing.proofs.Numbers.{timer-there}
 use Rattle.page_describing.proofs.timer_rows.Statement.{statement}
 use Rattle.page_describing.proofs.timer_rows.Tie as tie
 
 abbrev Inv-loop : tie.InvT-loop
-Inv-loop wheel timers rows₀ id₀ rows id = (id ≤ 32) × (rows ≡ filled 32 (timerAt timers wheel) (timerFor stoppedTimerRow) id)
+Inv-loop clock wheel rows₀ id₀ rows id = (id ≤ 32) × (rows ≡ filled 32 (timerAt (clockIn clock .timers) (wheelIn wheel)) (timerFor stoppedTimerRow) id)
 
 abbrev μ-loop : tie.MeasureT-loop
-μ-loop wheel timers rows₀ id₀ rows id = 32 - id
+μ-loop clock wheel rows₀ id₀ rows id = 32 - id
 
 loop-holds : tie.Need-loop-holds Inv-loop μ-loop
 loop-holds c = (omega arith, fill-none 32 _ _)
 
-cast-i : tie.Need-cast-i Inv-loop μ-loop
-cast-i c = search needs
-
-mul-timer : tie.Need-mul-timer Inv-loop μ-loop
-mul-timer c = search needs
-
-array-copy-out-timer : tie.Need-array-copy-out-timer Inv-loop μ-loop
-array-copy-out-timer c = search cases
-
 timer-row-requires : tie.Need-timer-row-requires Inv-loop μ-loop
 timer-row-requires c κs = search needs
+
+cast-i : tie.Need-cast-i Inv-loop μ-loop
+cast-i c = search needs
 
 mul-rows : tie.Need-mul-rows Inv-loop μ-loop
 mul-rows c = search needs
@@ -47,9 +43,10 @@ loop-less c = search needs
 
 loop-again : tie.Need-loop-again Inv-loop μ-loop
 loop-again c =
-    let at-loop-test = c .before .before in
+    let at-loop-test = c .before in
     let a = at-loop-test .before in
-    (omega arith, ap (λ l. set l (a .loop .id) (c .timer-row .result)) (a .loop .inv .1) ∙ fill-next 32 _ _ (a .loop .id) (c .timer-row .result) (at-loop-test .loop-test .taken) (c .timer-row .ensures))
+    let entry = a .before .args in
+    (omega arith, ap (λ l. set l (a .loop .id) (c .timer-row .result)) (a .loop .inv .1) ∙ fill-next 32 _ _ (a .loop .id) (c .timer-row .result) (at-loop-test .loop-test .taken) (c .timer-row .ensures ∙ timer-there (clockIn (entry .clock .now)) (wheelIn (entry .wheel .now)) (a .loop .id) (at-loop-test .loop-test .taken)))
 
 returns : tie.Need-returns Inv-loop μ-loop
 returns c = c .before .loop .inv .1 ∙ fill-all 32 _ _ _ (c .loop-test .left)
@@ -61,10 +58,8 @@ timer-rows-spec =
     Inv-loop
     μ-loop
     loop-holds
-    cast-i
-    mul-timer
-    array-copy-out-timer
     timer-row-requires
+    cast-i
     mul-rows
     array-set-from-rows
     add-id

@@ -35,9 +35,9 @@ returns c =
     let at-mutex-at = at-thread-at .before .before in
     let at-running-at = at-mutex-at .before .before in
     let at-entry = at-running-at .before .before in
-    λ clock.
+    λ timing.
     let a = at-entry .args in
-    let x = engineIn (a .cells .now) clock (a .counts) in
+    let x = engineIn (a .cells .now) timing (a .counts) in
     refused x 255 _ _ _ (at-number .number .ensures)
     (at-acquire-verdict .acquire-verdict .ensures ∙ acquire-judged x (a .m) _ _ (at-running-at .running-at .ensures) (at-mutex-at .mutex-at .ensures) _ (at-thread-at .thread-at .ensures))
     _ _ (c .refuse .ensures) (at-if1 .if1 .taken)
@@ -59,12 +59,12 @@ returns-2 c =
     let at-mutex-at = at-thread-at .before .before in
     let at-running-at = at-mutex-at .before .before in
     let at-entry = at-running-at .before .before in
-    λ clock.
+    λ timing.
     let a = at-entry .args in
-    let x = engineIn (a .cells .now) clock (a .counts) in
+    let x = engineIn (a .cells .now) timing (a .counts) in
     accepted x 255 _ _ _ (at-number .number .ensures)
     (at-acquire-verdict .acquire-verdict .ensures ∙ acquire-judged x (a .m) _ _ (at-running-at .running-at .ensures) (at-mutex-at .mutex-at .ensures) _ (at-thread-at .thread-at .ensures))
-    _ _ _ (c .finish .ensures clock) (ap (withScheduler x) (at-acquire .acquire .ensures)) (at-if1 .if1 .left)
+    _ _ _ (c .finish .ensures timing) (ap (withScheduler x) (at-acquire .acquire .ensures)) (at-if1 .if1 .left)
 
 pub acquire-spec : {M : Type 1} → statement M
 acquire-spec =

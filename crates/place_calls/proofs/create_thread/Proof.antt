@@ -30,10 +30,10 @@ returns c =
     let at-number = at-if1 .before in
     let at-created-verdict = at-number .before in
     let at-entry = at-created-verdict .before in
-    λ clock.
+    λ timing.
     let a = at-entry .args in
-    let x = engineIn (a .cells .now) clock (a .counts) in
-    ap (λ (r : Counted). steppedIn (a .cells .now) clock (r .counts) (r .answer)) (c .with-answer .ensures)
+    let x = engineIn (a .cells .now) timing (a .counts) in
+    ap (λ (r : Counted). steppedIn (a .cells .now) timing (r .counts) (r .answer)) (c .with-answer .ensures)
     ∙ refused x (a .counts .threads) _ _ _ (at-number .number .ensures) (at-created-verdict .created-verdict .ensures) _ _ (at-refuse .refuse .ensures) (at-if1 .if1 .taken)
 
 create-requires : tie.Need-create-requires
@@ -60,12 +60,12 @@ returns-2 c =
     let at-number = at-if1 .before in
     let at-created-verdict = at-number .before in
     let at-entry = at-created-verdict .before in
-    λ clock.
+    λ timing.
     let a = at-entry .args in
-    let x = engineIn (a .cells .now) clock (a .counts) in
+    let x = engineIn (a .cells .now) timing (a .counts) in
     let n : Counts = record { started = a .counts .started; threads = a .counts .threads % 32 + 1; mutexes = a .counts .mutexes; conditions = a .counts .conditions; timercount = a .counts .timercount } in
-    ap (λ (r : Counted). steppedIn (at-finish .finish .last .0) clock (r .counts) (r .answer)) (c .with-answer2 .ensures)
-    ∙ accepted x (a .counts .threads) _ _ _ (at-number .number .ensures) (at-created-verdict .created-verdict .ensures) _ _ _ (at-finish .finish .ensures clock) (ap (withScheduler (engineIn (at-create .create .last .0) clock n)) (at-create .create .ensures)) (at-if1 .if1 .left)
+    ap (λ (r : Counted). steppedIn (at-finish .finish .last .0) timing (r .counts) (r .answer)) (c .with-answer2 .ensures)
+    ∙ accepted x (a .counts .threads) _ _ _ (at-number .number .ensures) (at-created-verdict .created-verdict .ensures) _ _ _ (at-finish .finish .ensures timing) (ap (withScheduler (engineIn (at-create .create .last .0) timing n)) (at-create .create .ensures)) (at-if1 .if1 .left)
 
 pub create-thread-spec : {M : Type 1} → statement M
 create-thread-spec =

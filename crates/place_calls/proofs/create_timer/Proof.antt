@@ -30,10 +30,10 @@ returns c =
     let at-number = at-if1 .before in
     let at-room-verdict = at-number .before in
     let at-entry = at-room-verdict .before in
-    λ clock.
+    λ timing.
     let a = at-entry .args in
-    let x = engineIn (a .cells .now) clock (a .counts) in
-    ap (λ (r : Counted). steppedIn (a .cells .now) clock (r .counts) (r .answer)) (c .with-answer .ensures)
+    let x = engineIn (a .cells .now) timing (a .counts) in
+    ap (λ (r : Counted). steppedIn (a .cells .now) timing (r .counts) (r .answer)) (c .with-answer .ensures)
     ∙ refused x (a .counts .timercount) _ _ _ (at-number .number .ensures) (at-room-verdict .room-verdict .ensures) _ _ (at-refuse .refuse .ensures) (at-if1 .if1 .taken)
 
 add-counts : tie.Need-add-counts
@@ -56,12 +56,12 @@ returns-2 c =
     let at-number = at-if1 .before in
     let at-room-verdict = at-number .before in
     let at-entry = at-room-verdict .before in
-    λ clock.
+    λ timing.
     let a = at-entry .args in
-    let x = engineIn (a .cells .now) clock (a .counts) in
+    let x = engineIn (a .cells .now) timing (a .counts) in
     let n : Counts = record { started = a .counts .started; threads = a .counts .threads; mutexes = a .counts .mutexes; conditions = a .counts .conditions; timercount = a .counts .timercount % 32 + 1 } in
-    ap (λ (r : Counted). steppedIn (at-finish .finish .last .0) clock (r .counts) (r .answer)) (c .with-answer2 .ensures)
-    ∙ accepted x (a .counts .timercount) _ _ _ (at-number .number .ensures) (at-room-verdict .room-verdict .ensures) _ _ _ (at-finish .finish .ensures clock) refl (at-if1 .if1 .left)
+    ap (λ (r : Counted). steppedIn (at-finish .finish .last .0) timing (r .counts) (r .answer)) (c .with-answer2 .ensures)
+    ∙ accepted x (a .counts .timercount) _ _ _ (at-number .number .ensures) (at-room-verdict .room-verdict .ensures) _ _ _ (at-finish .finish .ensures timing) refl (at-if1 .if1 .left)
 
 pub create-timer-spec : {M : Type 1} → statement M
 create-timer-spec =

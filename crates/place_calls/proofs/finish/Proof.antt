@@ -18,9 +18,9 @@ returns : tie.Need-returns
 returns c =
     let at-if1 = c .before .before in
     let at-entry = at-if1 .before in
-    λ clock.
-    ap (λ t. steppedIn (at-if1 .if1 .cells) clock (at-entry .args .counts) (record { number = 0; given = at-entry .args .given; running = t })) (c .running-at .ensures)
-    ∙ finished (engineIn (at-entry .args .cells .now) clock (at-entry .args .counts)) (schedulerIn (at-if1 .if1 .cells)) (at-entry .args .given) (at-entry .args .tick)
+    λ timing.
+    ap (λ t. steppedIn (at-if1 .if1 .cells) timing (at-entry .args .counts) (record { number = 0; given = at-entry .args .given; running = t })) (c .running-at .ensures)
+    ∙ finished (engineIn (at-entry .args .cells .now) timing (at-entry .args .counts)) (schedulerIn (at-if1 .if1 .cells)) (at-entry .args .given) (at-entry .args .tick)
     (⊎-elim (λ w. rw (w .0 .taken) (ap schedulerIn (w .3) ∙ w .2 .ensures)) (λ w. rw (w .0 .left) (ap schedulerIn (w .1))) (at-if1 .if1 .came))
 
 pub finish-spec : {M : Type 1} → statement M

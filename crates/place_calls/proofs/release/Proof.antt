@@ -31,9 +31,9 @@ returns c =
     let at-mutex-at = at-release-verdict .before in
     let at-running-at = at-mutex-at .before .before in
     let at-entry = at-running-at .before .before in
-    λ clock.
+    λ timing.
     let a = at-entry .args in
-    let x = engineIn (a .cells .now) clock (a .counts) in
+    let x = engineIn (a .cells .now) timing (a .counts) in
     refused x 255 _ _ _ (at-number .number .ensures)
     (at-release-verdict .release-verdict .ensures ∙ release-judged x (a .m) _ _ (at-running-at .running-at .ensures) (at-mutex-at .mutex-at .ensures))
     _ _ (c .refuse .ensures) (at-if1 .if1 .taken)
@@ -54,12 +54,12 @@ returns-2 c =
     let at-mutex-at = at-release-verdict .before in
     let at-running-at = at-mutex-at .before .before in
     let at-entry = at-running-at .before .before in
-    λ clock.
+    λ timing.
     let a = at-entry .args in
-    let x = engineIn (a .cells .now) clock (a .counts) in
+    let x = engineIn (a .cells .now) timing (a .counts) in
     accepted x 255 _ _ _ (at-number .number .ensures)
     (at-release-verdict .release-verdict .ensures ∙ release-judged x (a .m) _ _ (at-running-at .running-at .ensures) (at-mutex-at .mutex-at .ensures))
-    _ _ _ (c .finish .ensures clock) (ap (withScheduler x) (at-release .release .ensures)) (at-if1 .if1 .left)
+    _ _ _ (c .finish .ensures timing) (ap (withScheduler x) (at-release .release .ensures)) (at-if1 .if1 .left)
 
 pub release-spec : {M : Type 1} → statement M
 release-spec =

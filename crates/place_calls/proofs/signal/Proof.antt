@@ -25,9 +25,9 @@ returns c =
     let at-number = at-if1 .before in
     let at-id-verdict = at-number .before in
     let at-entry = at-id-verdict .before in
-    λ clock.
+    λ timing.
     let a = at-entry .args in
-    let x = engineIn (a .cells .now) clock (a .counts) in
+    let x = engineIn (a .cells .now) timing (a .counts) in
     refused x _ _ _ _ (at-number .number .ensures) (at-id-verdict .id-verdict .ensures) _ _ (c .refuse .ensures) (at-if1 .if1 .taken)
 
 signal-requires : tie.Need-signal-requires
@@ -44,12 +44,12 @@ returns-2 c =
     let at-number = at-if1 .before in
     let at-id-verdict = at-number .before in
     let at-entry = at-id-verdict .before in
-    λ clock.
+    λ timing.
     let a = at-entry .args in
-    let x = engineIn (a .cells .now) clock (a .counts) in
+    let x = engineIn (a .cells .now) timing (a .counts) in
     let e = at-signal .signal .ensures in
     accepted x _ _ _ _ (at-number .number .ensures) (at-id-verdict .id-verdict .ensures) _ _ _
-    (c .finish .ensures clock ∙ ap (λ (g : Signalled). answeredModel (engineIn (at-signal .signal .last .0) clock (a .counts)) (g .left) false) e)
+    (c .finish .ensures timing ∙ ap (λ (g : Signalled). answeredModel (engineIn (at-signal .signal .last .0) timing (a .counts)) (g .left) false) e)
     (ap (λ (g : Signalled). withScheduler x (g .scheduler)) e) (at-if1 .if1 .left)
 
 pub signal-spec : {M : Type 1} → statement M

@@ -9,7 +9,7 @@ use Rattle.place_tables.specs.Cells.{schedulerIn}
 use Rattle.place_tables.specs.Changes.{setNumbered, withQueue}
 use Rattle.place_tables.proofs.Storing.{set-back}
 use Rattle.place_packing.specs.Tables.{withLevels}
-use Rattle.place_packing.proofs.Copying.{copied, copy-none, copy-next, copy-all}
+use Rattle.laws.proofs.Copying.{copied, copy-none, copy-next, copy-all}
 use Rattle.place_packing.proofs.Putting.{noQueue, level-put, levels-long}
 use Rattle.place_packing.proofs.put_levels.Statement.{statement}
 use Rattle.place_packing.proofs.put_levels.Tie as tie

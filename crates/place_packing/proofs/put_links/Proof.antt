@@ -8,7 +8,7 @@ use Rattle.queue.proofs.Cases.{cases}
 use Rattle.place_tables.specs.Cells.{schedulerIn}
 use Rattle.place_tables.specs.Changes.{withLink}
 use Rattle.place_packing.specs.Tables.{withNext}
-use Rattle.place_packing.proofs.Copying.{copied, copy-none, copy-next, copy-all}
+use Rattle.laws.proofs.Copying.{copied, copy-none, copy-next, copy-all}
 use Rattle.place_packing.proofs.Putting.{link-put, links-long}
 use Rattle.place_packing.proofs.put_links.Statement.{statement}
 use Rattle.place_packing.proofs.put_links.Tie as tie

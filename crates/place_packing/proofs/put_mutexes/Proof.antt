@@ -8,7 +8,7 @@ use Rattle.queue.proofs.Cases.{cases}
 use Rattle.value_effects.specs.Effects.{noMutex, withMutex}
 use Rattle.place_tables.specs.Cells.{schedulerIn}
 use Rattle.place_packing.specs.Tables.{withMutexes}
-use Rattle.place_packing.proofs.Copying.{copied, copy-none, copy-next, copy-all}
+use Rattle.laws.proofs.Copying.{copied, copy-none, copy-next, copy-all}
 use Rattle.place_packing.proofs.Putting.{mutex-put, mutexes-long}
 use Rattle.place_packing.proofs.put_mutexes.Statement.{statement}
 use Rattle.place_packing.proofs.put_mutexes.Tie as tie

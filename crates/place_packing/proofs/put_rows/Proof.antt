@@ -9,7 +9,7 @@ use Rattle.value_tables.specs.Tables.{blank}
 use Rattle.place_tables.specs.Cells.{schedulerIn}
 use Rattle.place_tables.specs.Changes.{withThread}
 use Rattle.place_packing.specs.Tables.{withRows}
-use Rattle.place_packing.proofs.Copying.{copied, copy-none, copy-next, copy-all}
+use Rattle.laws.proofs.Copying.{copied, copy-none, copy-next, copy-all}
 use Rattle.place_packing.proofs.Putting.{row-put, rows-long}
 use Rattle.place_packing.proofs.put_rows.Statement.{statement}
 use Rattle.place_packing.proofs.put_rows.Tie as tie

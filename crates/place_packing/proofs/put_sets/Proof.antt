@@ -8,7 +8,7 @@ use Rattle.queue.proofs.Cases.{cases}
 use Rattle.value_effects.specs.Effects.{noSet}
 use Rattle.place_tables.specs.Cells.{schedulerIn}
 use Rattle.place_packing.specs.Tables.{firstSet, withLevels, withSets}
-use Rattle.place_packing.proofs.Copying.{copied, copy-none, copy-next, copy-all}
+use Rattle.laws.proofs.Copying.{copied, copy-none, copy-next, copy-all}
 use Rattle.place_packing.proofs.Putting.{setsOf, sets-back, set-put, sets-long}
 use Rattle.place_packing.proofs.put_sets.Statement.{statement}
 use Rattle.place_packing.proofs.put_sets.Tie as tie

@@ -8,7 +8,7 @@ use Rattle.queue.proofs.Cases.{cases}
 use Rattle.value_effects.specs.Effects.{withTie}
 use Rattle.place_tables.specs.Cells.{schedulerIn}
 use Rattle.place_packing.specs.Tables.{withTies}
-use Rattle.place_packing.proofs.Copying.{copied, copy-none, copy-next, copy-all}
+use Rattle.laws.proofs.Copying.{copied, copy-none, copy-next, copy-all}
 use Rattle.place_packing.proofs.Putting.{tie-put, ties-long}
 use Rattle.place_packing.proofs.put_ties.Statement.{statement}
 use Rattle.place_packing.proofs.put_ties.Tie as tie

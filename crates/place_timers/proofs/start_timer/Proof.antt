@@ -1,19 +1,19 @@
 -- `start_timer` meets its contract: by the length of the delay and the verdict, and each call by its own. Assumes nothing.
+use mathlib.Core.Path.{ap, _∙_}
+use Rattle.refusals.specs.Verdicts.{startTimerVerdict}
+use Rattle.value_engine.specs.declared.Timer.{Timer}
 use Rattle.value_engine.specs.Engines.{withTimer}
+use Rattle.wheel.specs.Promise.{wheelIn}
+use Rattle.place_clock.specs.Clock.{Clock}
 use Rattle.place_calls.specs.Standing.{engineIn}
+use Rattle.place_timers.specs.Arrays.{engineOn}
 use Rattle.place_timers.proofs.Starting.{start-out-of-range, start-refused, start-done}
 use borrow.Author.Needs.{needs}
 use Rattle.place_timers.proofs.start_timer.Statement.{statement}
 use Rattle.place_timers.proofs.start_timer.Tie as tie
 
-cast-i : tie.Need-cast-i
-cast-i c = search needs
-
-mul-row : tie.Need-mul-row
-mul-row c = search needs
-
-element-copy-out-row : tie.Need-element-copy-out-row
-element-copy-out-row c = search needs
+timer-at-requires : tie.Need-timer-at-requires
+timer-at-requires c κs = search needs
 
 ids-verdict-requires : tie.Need-ids-verdict-requires
 ids-verdict-requires c κs = search needs
@@ -39,9 +39,9 @@ returns c =
     let at-enum-told = at-first-of .before in
     let at-ticks-of = at-enum-told .before .before in
     let at-ids-verdict = at-ticks-of .before in
-    let at-entry = at-ids-verdict .before .before in
-    let a = at-entry .args in
-    let x = engineIn (a .cells .now) (a .t2) (a .counts) in
+    let at-timer-at = at-ids-verdict .before in
+    let a = at-timer-at .before .before .args in
+    let x = engineOn (a .cells .now) (a .clock .now) (a .wheel .now) (a .counts) in
     start-out-of-range x (a .id) (a .c) (a .kind) (a .v) _ _ _ (at-ids-verdict .ids-verdict .ensures) (at-ticks-of .ticks-of .ensures) _
     (at-enum-told .enum-told .given .1) (at-first-of .first-of .ensures) (c .refuse .ensures)
 
@@ -59,19 +59,20 @@ refuse-requires-2 c κs = search needs
 
 returns-2 : tie.Need-returns-2
 returns-2 c =
-    let at-if1 = c .before .before in
-    let at-number = at-if1 .before in
+    let tested = c .before .before in
+    let at-number = tested .before in
     let at-first-of2 = at-number .before in
     let at-start-timer-verdict = at-first-of2 .before in
     let at-first = at-start-timer-verdict .before .before in
     let at-ticks-of = at-first .before .before in
     let at-ids-verdict = at-ticks-of .before in
-    let at-entry = at-ids-verdict .before .before in
-    let a = at-entry .args in
-    let x = engineIn (a .cells .now) (a .t2) (a .counts) in
+    let at-timer-at = at-ids-verdict .before in
+    let a = at-timer-at .before .before .args in
+    let x = engineOn (a .cells .now) (a .clock .now) (a .wheel .now) (a .counts) in
+    let state = at-start-timer-verdict .start-timer-verdict .ensures ∙ ap (λ (row : Timer). startTimerVerdict (row .state)) (at-timer-at .timer-at .ensures) in
     start-refused x (a .id) (a .c) (a .kind) (a .v) _ _ _ (at-ids-verdict .ids-verdict .ensures) (at-ticks-of .ticks-of .ensures)
-    _ _ _ (at-first .first .given .1) (at-start-timer-verdict .start-timer-verdict .ensures) (at-first-of2 .first-of2 .ensures) (at-number .number .ensures)
-    _ (c .refuse2 .ensures) (at-if1 .if1 .taken)
+    _ _ _ (at-first .first .given .1) state (at-first-of2 .first-of2 .ensures) (at-number .number .ensures)
+    _ (c .refuse2 .ensures) (tested .if1 .taken)
 
 state-of-requires : tie.Need-state-of-requires
 state-of-requires c κs = search needs
@@ -79,11 +80,8 @@ state-of-requires c κs = search needs
 length-kept-requires : tie.Need-length-kept-requires
 length-kept-requires c κs = search needs
 
-mul-t25 : tie.Need-mul-t25
-mul-t25 c = search needs
-
-element-set-from-clock : tie.Need-element-set-from-clock
-element-set-from-clock c = search needs
+put-timer-requires : tie.Need-put-timer-requires
+put-timer-requires c κs = search needs
 
 start-requires : tie.Need-start-requires
 start-requires c κs = search needs
@@ -94,31 +92,32 @@ finish-requires c κs = search needs
 returns-3 : tie.Need-returns-3
 returns-3 c =
     let at-start = c .before .before in
-    let at-length-kept = at-start .before .before in
+    let at-put-timer = at-start .before .before in
+    let at-length-kept = at-put-timer .before .before in
     let at-state-of = at-length-kept .before in
     let tested = at-state-of .before in
     let at-number = tested .before in
-    let at-first-of = at-number .before in
-    let at-start-timer-verdict = at-first-of .before in
+    let at-first-of2 = at-number .before in
+    let at-start-timer-verdict = at-first-of2 .before in
     let at-first = at-start-timer-verdict .before .before in
     let at-ticks-of = at-first .before .before in
     let at-ids-verdict = at-ticks-of .before in
-    let a = at-ids-verdict .before .before .args in
-    let x = engineIn (a .cells .now) (a .t2) (a .counts) in
-    let state = at-state-of .state-of .ensures in
-    let length = at-length-kept .length-kept .ensures in
-    let wheel = at-start .start .ensures .0 in
+    let at-timer-at = at-ids-verdict .before in
+    let a = at-timer-at .before .before .args in
+    let x = engineOn (a .cells .now) (a .clock .now) (a .wheel .now) (a .counts) in
+    let state = at-start-timer-verdict .start-timer-verdict .ensures ∙ ap (λ (row : Timer). startTimerVerdict (row .state)) (at-timer-at .timer-at .ensures) in
     start-done x (a .id) (a .c) (a .kind) (a .v) _ _ _ (at-ids-verdict .ids-verdict .ensures) (at-ticks-of .ticks-of .ensures)
-    _ _ _ (at-first .first .given .1) (at-start-timer-verdict .start-timer-verdict .ensures) (at-first-of .first-of2 .ensures) (at-number .number .ensures)
-    _ _ (c .finish .ensures _) (λ i. withTimer x (a .id) (record { state = state i; condition = a .c; length = length i }) (wheel i)) (tested .if1 .left)
+    _ _ _ (at-first .first .given .1) state (at-first-of2 .first-of2 .ensures) (at-number .number .ensures)
+    _ _ (c .finish .ensures _)
+    (ap (λ (t : Clock). engineIn (a .cells .now) (record { timers = t .timers; wheel = wheelIn (at-start .start .last .0); count = t .count }) (a .counts)) (at-put-timer .put-timer .ensures)
+    ∙ (λ i. withTimer x (a .id) (record { state = at-state-of .state-of .ensures i; condition = a .c; length = at-length-kept .length-kept .ensures i }) (at-start .start .ensures .0 i)))
+    (tested .if1 .left)
 
 pub start-timer-spec : {M : Type 1} → statement M
 start-timer-spec =
     tie.close
     (tie.spec
-    cast-i
-    mul-row
-    element-copy-out-row
+    timer-at-requires
     ids-verdict-requires
     ticks-of-requires
     enum-known-first
@@ -133,8 +132,7 @@ start-timer-spec =
     returns-2
     state-of-requires
     length-kept-requires
-    mul-t25
-    element-set-from-clock
+    put-timer-requires
     start-requires
     finish-requires
     returns-3)

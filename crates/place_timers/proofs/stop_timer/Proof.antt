@@ -1,23 +1,18 @@
 -- `stop_timer` meets its contract: by its verdict, and each call by its own. Assumes nothing.
 use mathlib.Core.Path.{refl, ap, _∙_}
 use mathlib.Core.Bool.{false}
-use Rattle.refusals.specs.Verdicts.{firstOf}
+use Rattle.refusals.specs.Verdicts.{firstOf, stopVerdict}
+use Rattle.value_engine.specs.declared.Timer.{Timer}
 use Rattle.value_engine.specs.declared.Effect.{Effect}
 use Rattle.value_engine.specs.Engines.{answeredModel, timerStopped, stopTimerModel}
-use Rattle.place_calls.specs.Standing.{engineIn}
 use Rattle.place_calls.proofs.Judging.{refused, accepted}
+use Rattle.place_timers.specs.Arrays.{engineOn}
 use borrow.Author.Needs.{needs}
 use Rattle.place_timers.proofs.stop_timer.Statement.{statement}
 use Rattle.place_timers.proofs.stop_timer.Tie as tie
 
-cast-i : tie.Need-cast-i
-cast-i c = search needs
-
-mul-row : tie.Need-mul-row
-mul-row c = search needs
-
-element-copy-out-row : tie.Need-element-copy-out-row
-element-copy-out-row c = search needs
+timer-at-requires : tie.Need-timer-at-requires
+timer-at-requires c κs = search needs
 
 id-verdict-requires : tie.Need-id-verdict-requires
 id-verdict-requires c κs = search needs
@@ -42,10 +37,12 @@ returns c =
     let at-first-of = at-number .before in
     let at-stop-verdict = at-first-of .before in
     let at-id-verdict = at-stop-verdict .before in
-    let a = at-id-verdict .before .before .args in
-    let x = engineIn (a .cells .now) (a .t2) (a .counts) in
+    let at-timer-at = at-id-verdict .before in
+    let a = at-timer-at .before .before .args in
+    let x = engineOn (a .cells .now) (a .clock .now) (a .wheel .now) (a .counts) in
+    let state = at-stop-verdict .stop-verdict .ensures ∙ ap (λ (row : Timer). stopVerdict (row .state)) (at-timer-at .timer-at .ensures) in
     refused x (timerStopped x (a .id) .given) _ _ _ (at-number .number .ensures)
-    (at-first-of .first-of .ensures ∙ (λ i. firstOf (at-id-verdict .id-verdict .ensures i) (at-stop-verdict .stop-verdict .ensures i)))
+    (at-first-of .first-of .ensures ∙ (λ i. firstOf (at-id-verdict .id-verdict .ensures i) (state i)))
     _ _ (c .refuse .ensures) (tested .if1 .taken)
 
 timer-stopped-requires : tie.Need-timer-stopped-requires
@@ -57,16 +54,18 @@ finish-requires c κs = search needs
 returns-2 : tie.Need-returns-2
 unfolding stopTimerModel
 returns-2 c =
-    let at-stopped = c .before .before .before in
-    let tested = at-stopped .before in
+    let at-stopped = c .before .before in
+    let tested = at-stopped .before .before .before in
     let at-number = tested .before in
     let at-first-of = at-number .before in
     let at-stop-verdict = at-first-of .before in
     let at-id-verdict = at-stop-verdict .before in
-    let a = at-id-verdict .before .before .args in
-    let x = engineIn (a .cells .now) (a .t2) (a .counts) in
+    let at-timer-at = at-id-verdict .before in
+    let a = at-timer-at .before .before .args in
+    let x = engineOn (a .cells .now) (a .clock .now) (a .wheel .now) (a .counts) in
+    let state = at-stop-verdict .stop-verdict .ensures ∙ ap (λ (row : Timer). stopVerdict (row .state)) (at-timer-at .timer-at .ensures) in
     accepted x (timerStopped x (a .id) .given) _ _ _ (at-number .number .ensures)
-    (at-first-of .first-of .ensures ∙ (λ i. firstOf (at-id-verdict .id-verdict .ensures i) (at-stop-verdict .stop-verdict .ensures i)))
+    (at-first-of .first-of .ensures ∙ (λ i. firstOf (at-id-verdict .id-verdict .ensures i) (state i)))
     _ _ _ (c .finish .ensures _ ∙ ap (λ (e : Effect). answeredModel (e .engine) (e .given) false) (at-stopped .timer-stopped .ensures (a .cells .now) (a .counts)))
     refl (tested .if1 .left)
 
@@ -74,9 +73,7 @@ pub stop-timer-spec : {M : Type 1} → statement M
 stop-timer-spec =
     tie.close
     (tie.spec
-    cast-i
-    mul-row
-    element-copy-out-row
+    timer-at-requires
     id-verdict-requires
     stop-verdict-requires
     first-of-requires

@@ -1,23 +1,17 @@
--- `timer_stopped` meets its contract: the wheel with the timer stopped, and the ticks left on the wheel before. Assumes nothing.
+-- `timer_stopped` meets its contract: the row and the wheel with the timer stopped, and the ticks left on the wheel before. Assumes nothing.
 use Rattle.value_engine.specs.Engines.{timerStopped}
 use borrow.Author.Needs.{needs}
 use Rattle.place_timers.proofs.timer_stopped.Statement.{statement}
 use Rattle.place_timers.proofs.timer_stopped.Tie as tie
 
-cast-i : tie.Need-cast-i
-cast-i c = search needs
+left-requires : tie.Need-left-requires
+left-requires c κs = search needs
 
-mul-t12 : tie.Need-mul-t12
-mul-t12 c = search needs
-
-element-set-from-clock : tie.Need-element-set-from-clock
-element-set-from-clock c = search needs
+put-timer-requires : tie.Need-put-timer-requires
+put-timer-requires c κs = search needs
 
 stop-requires : tie.Need-stop-requires
 stop-requires c κs = search needs
-
-left-requires : tie.Need-left-requires
-left-requires c κs = search needs
 
 count-of-requires : tie.Need-count-of-requires
 count-of-requires c κs = search needs
@@ -25,10 +19,11 @@ count-of-requires c κs = search needs
 returns : tie.Need-returns
 unfolding timerStopped
 returns c =
-    let at-left = c .before in
-    let at-stop = at-left .before in
-    λ cells counts. rw (c .count-of .ensures, at-left .left .ensures .0, at-stop .stop .ensures .0)
+    let at-stop = c .before in
+    let at-put-timer = at-stop .before .before in
+    let at-left = at-put-timer .before .before in
+    λ cells counts. rw (c .count-of .ensures, at-left .left .ensures .0, at-stop .stop .ensures .0, at-put-timer .put-timer .ensures)
 
 pub timer-stopped-spec : {M : Type 1} → statement M
 timer-stopped-spec =
-    tie.close (tie.spec cast-i mul-t12 element-set-from-clock stop-requires left-requires count-of-requires returns)
+    tie.close (tie.spec left-requires put-timer-requires stop-requires count-of-requires returns)

@@ -1,8 +1,8 @@
 -- `run_rows` meets its contract, by `apart` and `summed`. Assumes nothing.
 use mathlib.Core.Path.{_∙_}
-use borrow.Author.Needs.{needs}
-use Rattle.place_step.proofs.Sorts.{apart}
+use Rattle.place_step.proofs.Apart.{apart}
 use Rattle.run_tally.proofs.Walking.{summed}
+use borrow.Author.Needs.{needs}
 use Rattle.run_tally.proofs.run_rows.Statement.{statement}
 use Rattle.run_tally.proofs.run_rows.Tie as tie
 
@@ -12,8 +12,11 @@ boot-requires c κs = search needs
 cells-of-requires : tie.Need-cells-of-requires
 cells-of-requires c κs = search needs
 
-clock-of-requires : tie.Need-clock-of-requires
-clock-of-requires c κs = search needs
+clock-words-requires : tie.Need-clock-words-requires
+clock-words-requires c κs = search needs
+
+wheel-words-requires : tie.Need-wheel-words-requires
+wheel-words-requires c κs = search needs
 
 counts-of-requires : tie.Need-counts-of-requires
 counts-of-requires c κs = search needs
@@ -26,12 +29,13 @@ tally-repeated-requires c κs = search needs
 
 returns : tie.Need-returns
 returns c =
-    let at-tally-rows = c .before .before .before .before in
-    let at-counts-of = at-tally-rows .before .before in
-    let at-clock-of = at-counts-of .before in
-    let at-cells-of = at-clock-of .before in
+    let at-tally-rows = c .before .before .before .before .before in
+    let at-counts-of = at-tally-rows .before .before .before .before in
+    let at-wheel-words = at-counts-of .before in
+    let at-clock-words = at-wheel-words .before in
+    let at-cells-of = at-clock-words .before in
     let at-boot = at-cells-of .before in
-    let begun = apart _ _ _ _ (at-cells-of .cells-of .ensures) (at-clock-of .clock-of .ensures) (at-counts-of .counts-of .ensures) ∙ at-boot .boot .ensures in
+    let begun = apart _ _ _ _ _ (at-cells-of .cells-of .ensures) (at-clock-words .clock-words .ensures) (at-wheel-words .wheel-words .ensures) (at-counts-of .counts-of .ensures) ∙ at-boot .boot .ensures in
     summed _ _ _ _ _ _ _ begun (at-tally-rows .tally-rows .ensures) (c .tally-repeated .ensures)
 
 pub run-rows-spec : {M : Type 1} → statement M
@@ -40,7 +44,8 @@ run-rows-spec =
     (tie.spec
     boot-requires
     cells-of-requires
-    clock-of-requires
+    clock-words-requires
+    wheel-words-requires
     counts-of-requires
     tally-rows-requires
     tally-repeated-requires

@@ -1,5 +1,4 @@
--- `tally_row_by_value` meets its contract. Assumes nothing.
-use Rattle.run_tally.specs.Sums.{tallyRow}
+-- `tally_row_by_value` meets its contract: each call by its own. Assumes nothing.
 use borrow.Author.Needs.{needs}
 use Rattle.run_tally.proofs.tally_row_by_value.Statement.{statement}
 use Rattle.run_tally.proofs.tally_row_by_value.Tie as tie
@@ -11,9 +10,7 @@ add-requires : tie.Need-add-requires
 add-requires c κs = search needs
 
 returns : tie.Need-returns
-unfolding tallyRow
 returns c = rw (c .add .ensures, c .before .before .step-row .ensures .0)
 
 pub tally-row-by-value-spec : {M : Type 1} → statement M
-tally-row-by-value-spec =
-    tie.close (tie.spec step-row-requires add-requires returns)
+tally-row-by-value-spec = tie.close (tie.spec step-row-requires add-requires returns)

@@ -1,27 +1,25 @@
 -- `tally_rows` meets its contract. The invariant: going on from row i gives what the whole gives. The measure is how many rows are left. Assumes nothing.
-use Prim.Native.Nat.{_≤_, _+_, _*_, _-_, _/_}
-use mathlib.Core.Path.{_≡_, refl, sym, ap, _∙_}
-use mathlib.Core.Logic.{⊎-elim}
+use Prim.Native.Nat.{_≤_, _<_, _-_, _/_, _^_}
+use mathlib.Core.Path.{_≡_, refl, _∙_}
 use native.Mathlib.Omega.{arith}
 use lib.ListN.{length}
 use borrow.Author.Needs.{needs}
-use Rattle.run_rows.specs.Rows.{rowAt}
-use Rattle.place_step.proofs.Sorts.{untimed-turns, timed-turns}
-use Rattle.place_calls.specs.Standing.{engineIn}
-use Rattle.run_tally.specs.Sums.{tallyIn}
-use Rattle.run_tally.proofs.Walking.{turned, fromRow, row-on, rows-end}
+use Rattle.run_rows.specs.Many.{afterRows}
+use Rattle.run_rows.proofs.Many.{rowsFrom, row-done, rows-end}
+use Rattle.run_tally.specs.Sums.{addWeight, tallyOn}
+use Rattle.run_tally.proofs.Walking.{row-added}
 use Rattle.run_tally.proofs.tally_rows.Statement.{statement}
 use Rattle.run_tally.proofs.tally_rows.Tie as tie
 
 abbrev Inv-loop : tie.InvT-loop
-Inv-loop cells₀ sum rows count clock₀ counts₀ sum₀ i₀ cells clock counts sum' i =
-    (count ≡ length rows / 8) × (i ≤ count) × (fromRow i (tallyIn cells clock counts sum') rows ≡ fromRow 0 (tallyIn cells₀ clock₀ counts₀ sum₀) rows)
+Inv-loop cells₀ clock₀ wheel₀ sum rows count counts₀ sum₀ i₀ cells clock wheel counts sum' i =
+    (count ≡ length rows / 8) × (i ≤ count) × (afterRows addWeight (tallyOn cells clock wheel counts sum') (rowsFrom i rows) ≡ afterRows addWeight (tallyOn cells₀ clock₀ wheel₀ counts₀ sum₀) (rowsFrom 0 rows)) × (count < 2 ^ 64)
 
 abbrev μ-loop : tie.MeasureT-loop
-μ-loop cells₀ sum rows count clock₀ counts₀ sum₀ i₀ cells clock counts sum' i = count - i
+μ-loop cells₀ clock₀ wheel₀ sum rows count counts₀ sum₀ i₀ cells clock wheel counts sum' i = count - i
 
 loop-holds : tie.Need-loop-holds Inv-loop μ-loop
-loop-holds c = (refl, omega arith, refl)
+loop-holds c = (refl, omega arith, refl, omega arith)
 
 mul-row-at : tie.Need-mul-row-at Inv-loop μ-loop
 mul-row-at c = omega arith
@@ -29,66 +27,41 @@ mul-row-at c = omega arith
 row-at-requires : tie.Need-row-at-requires Inv-loop μ-loop
 row-at-requires c κs = search needs
 
-decode-requires : tie.Need-decode-requires Inv-loop μ-loop
-decode-requires c κs = search needs
-
-is-timed-requires : tie.Need-is-timed-requires Inv-loop μ-loop
-is-timed-requires c κs = search needs
-
-timed-row-requires : tie.Need-timed-row-requires Inv-loop μ-loop
-timed-row-requires c κs = search needs
+step-row-requires : tie.Need-step-row-requires Inv-loop μ-loop
+step-row-requires c κs = search needs
 
 add-requires : tie.Need-add-requires Inv-loop μ-loop
 add-requires c κs = search needs
 
-untimed-row-requires : tie.Need-untimed-row-requires Inv-loop μ-loop
-untimed-row-requires c κs = search needs
-
-add-requires-2 : tie.Need-add-requires-2 Inv-loop μ-loop
-add-requires-2 c κs = search needs
-
 add-i : tie.Need-add-i Inv-loop μ-loop
-add-i c = omega arith
+add-i c =
+    let at-loop-test = c .before .before .before .before .before .before .before in
+    omega (arith, at-loop-test .loop-test .taken, at-loop-test .before .loop .inv .3)
 
 loop-less : tie.Need-loop-less Inv-loop μ-loop
 loop-less c = omega arith
 
 loop-again : tie.Need-loop-again Inv-loop μ-loop
 loop-again c =
-    let at-is-timed = c .before in
-    let at-decode = at-is-timed .before in
-    let at-row-at = at-decode .before in
-    let at-loop = at-row-at .before .before in
-    let at-entry = at-loop .before .before in
+    let at-step-row = c .before .before in
+    let at-row-at = at-step-row .before .before .before .before in
+    let at-loop-test = at-row-at .before in
+    let at-loop = at-loop-test .before in
     let l = at-loop .loop in
-    let rows = at-entry .args .rows .now in
-    let x = engineIn (l .cells) (l .clock) (l .counts) in
-    let on = sym (row-on (tallyIn (l .cells) (l .clock) (l .counts) (l .sum)) rows (l .i) (omega arith)) ∙ l .inv .2 in
-    ⊎-elim
-    (λ w. (
+    let rows = at-loop .before .before .args .rows .now in
+    let x = tallyOn (l .cells) (l .clock) (l .wheel) (l .counts) (l .sum) in
+    let done = row-done (x .engine) _ _ (at-step-row .step-row .ensures) in (
       l .inv .0,
-      omega arith,
-      ap (λ t. fromRow (l .i + 1) t rows)
-          ((λ j. tallyIn (w .5 j) (w .6 j) (w .7 j) (w .8 j))
-          ∙ turned x (l .sum) _ _ _ (rowAt rows (l .i * 8)) _ (w .2 .ensures ∙ timed-turns x _ (sym (at-is-timed .is-timed .ensures) ∙ w .0 .taken)) (at-decode .decode .ensures) (at-row-at .row-at .ensures) (w .4 .ensures))
-          ∙ on,
-    ))
-    (λ w. (
-      l .inv .0,
-      omega arith,
-      ap (λ t. fromRow (l .i + 1) t rows)
-          ((λ j. tallyIn (w .5 j) (w .6 j) (w .7 j) (w .8 j))
-          ∙ turned x (l .sum) _ _ _ (rowAt rows (l .i * 8)) _ (w .2 .ensures (l .clock) ∙ untimed-turns x _ (sym (at-is-timed .is-timed .ensures) ∙ w .0 .left)) (at-decode .decode .ensures) (at-row-at .row-at .ensures) (w .4 .ensures))
-          ∙ on,
-    ))
-    (c .if1 .came)
+      omega (arith, at-loop-test .loop-test .taken),
+      row-added (l .i) rows _ x _ _ (at-loop-test .loop-test .taken) (at-row-at .row-at .ensures) done (c .add .ensures) ∙ l .inv .2,
+      l .inv .3,
+    )
 
 returns : tie.Need-returns Inv-loop μ-loop
 returns c =
     let at-loop = c .before in
-    let at-entry = at-loop .before .before in
     let l = at-loop .loop in
-    rows-end (tallyIn (l .cells) (l .clock) (l .counts) (l .sum)) _ (at-entry .args .rows .now) (l .i) (omega arith) (l .inv .2)
+    rows-end addWeight (l .i) (at-loop .before .before .args .rows .now) _ (tallyOn (l .cells) (l .clock) (l .wheel) (l .counts) (l .sum)) (c .loop-test .left) (l .inv .2)
 
 pub tally-rows-spec : {M : Type 1} → statement M
 tally-rows-spec =
@@ -99,12 +72,8 @@ tally-rows-spec =
     loop-holds
     mul-row-at
     row-at-requires
-    decode-requires
-    is-timed-requires
-    timed-row-requires
+    step-row-requires
     add-requires
-    untimed-row-requires
-    add-requires-2
     add-i
     loop-less
     loop-again

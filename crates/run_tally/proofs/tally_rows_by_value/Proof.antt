@@ -1,15 +1,18 @@
 -- `tally_rows_by_value` meets its contract. The invariant: going on from row i gives what the whole gives. The measure is how many rows are left. Assumes nothing.
 use Prim.Native.Nat.{_≤_, _-_, _/_}
-use mathlib.Core.Path.{_≡_, refl, sym, _∙_}
+use mathlib.Core.Path.{_≡_, refl, _∙_}
 use native.Mathlib.Omega.{arith}
-use borrow.Author.Needs.{needs}
 use lib.ListN.{length}
-use Rattle.run_tally.proofs.Walking.{fromRow, row-on, rows-end}
+use borrow.Author.Needs.{needs}
+use Rattle.run_rows.specs.Many.{afterRows}
+use Rattle.run_rows.proofs.Many.{rowsFrom, rows-end}
+use Rattle.run_tally.specs.Sums.{addWeight, tallyBy}
+use Rattle.run_tally.proofs.Walking.{row-tallied}
 use Rattle.run_tally.proofs.tally_rows_by_value.Statement.{statement}
 use Rattle.run_tally.proofs.tally_rows_by_value.Tie as tie
 
 abbrev Inv-loop : tie.InvT-loop
-Inv-loop rows count reached₀ i₀ reached i = (count ≡ length rows / 8) × (i ≤ count) × (fromRow i reached rows ≡ fromRow 0 reached₀ rows)
+Inv-loop rows count reached₀ i₀ reached i = (count ≡ length rows / 8) × (i ≤ count) × (afterRows addWeight (tallyBy reached) (rowsFrom i rows) ≡ afterRows addWeight (tallyBy reached₀) (rowsFrom 0 rows))
 
 abbrev μ-loop : tie.MeasureT-loop
 μ-loop rows count reached₀ i₀ reached i = count - i
@@ -35,17 +38,17 @@ loop-less c = omega arith
 loop-again : tie.Need-loop-again Inv-loop μ-loop
 loop-again c =
     let at-row-at = c .before in
-    let at-loop = at-row-at .before .before in
-    let at-entry = at-loop .before .before in
+    let at-loop-test = at-row-at .before in
+    let at-loop = at-loop-test .before in
     let l = at-loop .loop in
-    (l .inv .0, omega arith, rw (c .tally-row-by-value .ensures, at-row-at .row-at .ensures) (sym (row-on (l .reached) (at-entry .args .rows .now) (l .i) (omega arith)) ∙ l .inv .2))
+    let rows = at-loop .before .before .args .rows .now in
+    (l .inv .0, omega arith, row-tallied (l .i) rows _ (tallyBy (l .reached)) _ (at-loop-test .loop-test .taken) (at-row-at .row-at .ensures) (c .tally-row-by-value .ensures) ∙ l .inv .2)
 
 returns : tie.Need-returns Inv-loop μ-loop
 returns c =
     let at-loop = c .before in
-    let at-entry = at-loop .before .before in
     let l = at-loop .loop in
-    rows-end (l .reached) _ (at-entry .args .rows .now) (l .i) (omega arith) (l .inv .2)
+    rows-end addWeight (l .i) (at-loop .before .before .args .rows .now) _ (tallyBy (l .reached)) (c .loop-test .left) (l .inv .2)
 
 pub tally-rows-by-value-spec : {M : Type 1} → statement M
 tally-rows-by-value-spec =

@@ -1,22 +1,20 @@
 -- `condition_waiters_fit` meets its contract. The invariant: the threads left decide as all do. The measure is what is left. Assumes nothing.
 use borrow.Author.Needs.{needs}
-use mathlib.Core.Path.{_≡_, refl, sym, _∙_}
+use mathlib.Core.Path.{_≡_, sym, _∙_}
 use borrow.Author.Tests.{not-true, not-false}
-use Rattle.rules.specs.Sound.{each}
-use Rattle.sound_objects.specs.Objects.{conditionWaiterAt, conditionWaitersFit}
 use Rattle.sound_standing.proofs.Loops.{each-on, each-out, each-end}
+use Rattle.sound_objects.specs.Objects.{conditionWaitersIn}
 use Rattle.sound_objects.proofs.condition_waiters_fit.Statement.{statement}
 use Rattle.sound_objects.proofs.condition_waiters_fit.Tie as tie
 
 abbrev Inv-loop : tie.InvT-loop
-Inv-loop mutexes known c ceiling rows t₀ t = each t (conditionWaiterAt rows mutexes known c ceiling) ≡ conditionWaitersFit rows mutexes known c ceiling
+Inv-loop threads mutexrows mutexes c ceiling threadrows t₀ t = conditionWaitersIn threadrows t mutexrows mutexes c ceiling ≡ conditionWaitersIn threadrows threads mutexrows mutexes c ceiling
 
 abbrev μ-loop : tie.MeasureT-loop
-μ-loop mutexes known c ceiling rows t₀ t = t
+μ-loop threads mutexrows mutexes c ceiling threadrows t₀ t = t
 
 loop-holds : tie.Need-loop-holds Inv-loop μ-loop
-unfolding conditionWaitersFit
-loop-holds c = refl
+loop-holds c = search needs
 
 sub-t : tie.Need-sub-t Inv-loop μ-loop
 sub-t c = search needs
@@ -34,26 +32,24 @@ condition-waiter-fits-requires : tie.Need-condition-waiter-fits-requires Inv-loo
 condition-waiter-fits-requires c κs = search needs
 
 returns : tie.Need-returns Inv-loop μ-loop
-unfolding conditionWaitersFit
+unfolding conditionWaitersIn
 returns c =
     let at-condition-waiter-fits = c .before in
     let at-loop-test = at-condition-waiter-fits .before .before in
-    let at-loop = at-loop-test .before in
-    each-out _ _ _ (at-loop-test .loop-test .taken) (at-loop .loop .inv) (sym (at-condition-waiter-fits .condition-waiter-fits .ensures) ∙ not-true _ (c .if1 .taken))
+    each-out _ _ _ (at-loop-test .loop-test .taken) (at-loop-test .before .loop .inv) (sym (at-condition-waiter-fits .condition-waiter-fits .ensures) ∙ not-true _ (c .if1 .taken))
 
 loop-less : tie.Need-loop-less Inv-loop μ-loop
 loop-less c = search needs
 
 loop-again : tie.Need-loop-again Inv-loop μ-loop
-unfolding conditionWaitersFit
+unfolding conditionWaitersIn
 loop-again c =
     let at-condition-waiter-fits = c .before in
     let at-loop-test = at-condition-waiter-fits .before .before in
-    let at-loop = at-loop-test .before in
-    each-on _ _ _ (at-loop-test .loop-test .taken) (at-loop .loop .inv) (sym (at-condition-waiter-fits .condition-waiter-fits .ensures) ∙ not-false _ (c .if1 .left))
+    each-on _ _ _ (at-loop-test .loop-test .taken) (at-loop-test .before .loop .inv) (sym (at-condition-waiter-fits .condition-waiter-fits .ensures) ∙ not-false _ (c .if1 .left))
 
 returns-2 : tie.Need-returns-2 Inv-loop μ-loop
-unfolding conditionWaitersFit
+unfolding conditionWaitersIn
 returns-2 c = each-end _ _ _ (c .loop-test .left) (c .before .loop .inv)
 
 pub condition-waiters-fit-spec : {M : Type 1} → statement M

@@ -1,17 +1,17 @@
 -- `mutex_waiters_fit` meets its contract. The invariant: the threads left decide as all do. The measure is what is left. Assumes nothing.
+use borrow.Author.Needs.{needs}
 use mathlib.Core.Path.{_≡_, sym, _∙_}
 use borrow.Author.Tests.{not-true, not-false}
-use Rattle.sound_objects.specs.Objects.{mutexWaitersFit}
 use Rattle.sound_standing.proofs.Loops.{each-on, each-out, each-end}
-use borrow.Author.Needs.{needs}
+use Rattle.sound_objects.specs.Objects.{mutexWaitersIn}
 use Rattle.sound_objects.proofs.mutex_waiters_fit.Statement.{statement}
 use Rattle.sound_objects.proofs.mutex_waiters_fit.Tie as tie
 
 abbrev Inv-loop : tie.InvT-loop
-Inv-loop n m row rows priorities t₀ t = mutexWaitersFit rows priorities t m row ≡ mutexWaitersFit rows priorities n m row
+Inv-loop threads m row threadrows priorities t₀ t = mutexWaitersIn threadrows t priorities m row ≡ mutexWaitersIn threadrows threads priorities m row
 
 abbrev μ-loop : tie.MeasureT-loop
-μ-loop n m row rows priorities t₀ t = t
+μ-loop threads m row threadrows priorities t₀ t = t
 
 loop-holds : tie.Need-loop-holds Inv-loop μ-loop
 loop-holds c = search needs
@@ -35,26 +35,24 @@ mutex-waiter-fits-requires : tie.Need-mutex-waiter-fits-requires Inv-loop μ-loo
 mutex-waiter-fits-requires c κs = search needs
 
 returns : tie.Need-returns Inv-loop μ-loop
-unfolding mutexWaitersFit
+unfolding mutexWaitersIn
 returns c =
     let at-mutex-waiter-fits = c .before in
     let at-loop-test = at-mutex-waiter-fits .before .before in
-    let at-loop = at-loop-test .before in
-    each-out _ _ _ (at-loop-test .loop-test .taken) (at-loop .loop .inv) (sym (at-mutex-waiter-fits .mutex-waiter-fits .ensures) ∙ not-true _ (c .if1 .taken))
+    each-out _ _ _ (at-loop-test .loop-test .taken) (at-loop-test .before .loop .inv) (sym (at-mutex-waiter-fits .mutex-waiter-fits .ensures) ∙ not-true _ (c .if1 .taken))
 
 loop-less : tie.Need-loop-less Inv-loop μ-loop
 loop-less c = search needs
 
 loop-again : tie.Need-loop-again Inv-loop μ-loop
-unfolding mutexWaitersFit
+unfolding mutexWaitersIn
 loop-again c =
     let at-mutex-waiter-fits = c .before in
     let at-loop-test = at-mutex-waiter-fits .before .before in
-    let at-loop = at-loop-test .before in
-    each-on _ _ _ (at-loop-test .loop-test .taken) (at-loop .loop .inv) (sym (at-mutex-waiter-fits .mutex-waiter-fits .ensures) ∙ not-false _ (c .if1 .left))
+    each-on _ _ _ (at-loop-test .loop-test .taken) (at-loop-test .before .loop .inv) (sym (at-mutex-waiter-fits .mutex-waiter-fits .ensures) ∙ not-false _ (c .if1 .left))
 
 returns-2 : tie.Need-returns-2 Inv-loop μ-loop
-unfolding mutexWaitersFit
+unfolding mutexWaitersIn
 returns-2 c = each-end _ _ _ (c .loop-test .left) (c .before .loop .inv)
 
 pub mutex-waiters-fit-spec : {M : Type 1} → statement M

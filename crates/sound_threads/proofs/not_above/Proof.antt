@@ -17,7 +17,7 @@ implied-requires c κs = search needs
 returns : tie.Need-returns
 unfolding notAbove whereOf
 returns c =
-    let at-both = c .before .before in
+    let at-both = c .before in
     let at-stands = at-both .before in
     rw (c .implied .ensures, at-both .both .ensures, at-stands .stands .ensures)
 

@@ -14,7 +14,7 @@ both-requires c κs = search needs
 
 returns : tie.Need-returns
 unfolding runsFits whereOf
-returns c = rw (one-bit _ _, c .both .ensures, c .before .before .stands .ensures)
+returns c = rw (one-bit _ _, c .both .ensures, c .before .stands .ensures)
 
 pub runs-fits-spec : {M : Type 1} → statement M
 runs-fits-spec = tie.close (tie.spec stands-requires both-requires returns)

@@ -8,7 +8,8 @@ use lib.ListN.{length, take}
 use borrow.Author.Needs.{needs}
 use Rattle.run_rows.specs.Rows.{rowAt}
 use Rattle.run_lines.specs.declared.Lines.{Lines}
-use Rattle.run_lines.specs.Output.{rowsIn, at, Room, rowsLaid}
+use Rattle.run_rows.specs.Many.{rowsIn}
+use Rattle.run_lines.specs.Output.{at, Room, rowsLaid}
 use Rattle.run_pieces.specs.Pieces.{keptBy}
 use Rattle.run_pieces.proofs.Laying.{rest-kept, joined-size, joined-first}
 use Rattle.run_pieces.proofs.Feeding.{refused-fed, going-fed}
