@@ -22,14 +22,14 @@ const THIRD: u32 = 65536;
 const FOURTH: u32 = 16777216;
 
 // One-shot or periodic.
-#[derive(Drop)]
+#[derive(Clone, Copy)]
 pub enum Kind {
     OneShot,
     Periodic,
 }
 
 // The thirteen calls in document 01's order, with the fields that each names.
-#[derive(Drop)]
+#[derive(Clone, Copy)]
 pub enum Call {
     Start,
     CreateThread(u8),
@@ -47,14 +47,14 @@ pub enum Call {
 }
 
 // What a row of 8 bytes is: a call, or of wrong form.
-#[derive(Drop)]
+#[derive(Clone, Copy)]
 pub enum Decoded {
     Taken(Call),
     WrongForm,
 }
 
 // Why an answer is as it is, in the order of document 01's numbers from 0.
-#[derive(Drop)]
+#[derive(Clone, Copy)]
 pub enum Verdict {
     Done,
     NotSound,
@@ -77,7 +77,7 @@ pub enum Verdict {
 }
 
 // The three numbers of an answer: the answer, given, and the thread running afterwards.
-#[derive(Drop)]
+#[derive(Clone, Copy)]
 pub struct Answer {
     pub number: u8,
     pub given: u16,
@@ -85,7 +85,7 @@ pub struct Answer {
 }
 
 // Which of a, b, kind and v a call names.
-#[derive(Drop)]
+#[derive(Clone, Copy)]
 pub struct Named {
     pub a: bool,
     pub b: bool,

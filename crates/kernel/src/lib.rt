@@ -14,13 +14,13 @@ use units::Micros;
 use value_engine::Engine;
 
 // A kernel is what its engine keeps. Any value of it is a kernel, sound or not.
-#[derive(Drop)]
+#[derive(Clone, Copy)]
 pub struct Kernel {
     pub engine: Engine,
 }
 
 // The kernel that follows, with its answer.
-#[derive(Drop)]
+#[derive(Clone, Copy)]
 pub struct Stepped {
     pub kernel: Kernel,
     pub answer: Answer,

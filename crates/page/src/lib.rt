@@ -11,7 +11,7 @@ use value_effects::{FREE_MUTEX, Mutex, MutexTable, Ties};
 
 // A thread: its base priority, its state (1 ready, 2 running, 3 mutex, 4 condition variable), the object waited for or 255, and its place in its
 // queue from 0.
-#[derive(Drop)]
+#[derive(Clone, Copy)]
 pub struct ThreadRow {
     pub base: u8,
     pub state: u8,
@@ -20,7 +20,7 @@ pub struct ThreadRow {
 }
 
 // A timer: its state (0 stopped, 1 one-shot, 2 periodic), its condition variable or 255, n, which is its length or a periodic one's repeat, and its ticks left.
-#[derive(Drop)]
+#[derive(Clone, Copy)]
 pub struct TimerRow {
     pub state: u8,
     pub condition: u8,
@@ -51,7 +51,7 @@ pub const STOPPED_ROW: TimerRow = TimerRow {
 pub type TimerRows = [TimerRow; TIMER_ROWS];
 
 // Whether started, the tick count, how many threads, mutexes, condition variables and timers there are, and their four tables.
-#[derive(Drop)]
+#[derive(Clone, Copy)]
 pub struct Page {
     pub started: bool,
     pub count: u32,

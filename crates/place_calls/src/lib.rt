@@ -16,7 +16,7 @@ use refusals::{
 };
 
 // Whether the scheduler is started, and how many rows of each table are in use.
-#[derive(Drop)]
+#[derive(Clone, Copy)]
 pub struct Counts {
     pub started: bool,
     pub threads: u8,
@@ -26,7 +26,7 @@ pub struct Counts {
 }
 
 // The counts that follow, and the answer.
-#[derive(Drop)]
+#[derive(Clone, Copy)]
 pub struct Counted {
     pub counts: Counts,
     pub answer: Answer,

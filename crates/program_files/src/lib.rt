@@ -7,14 +7,14 @@ use libc::{STDERR_FILENO, STDOUT_FILENO};
 use run_text::{TEXT, Text};
 
 // What was read: how many bytes, and whether a read failed.
-#[derive(Drop)]
+#[derive(Clone, Copy)]
 pub struct Filled {
     pub held: usize,
     pub failed: bool,
 }
 
 // An argument: its length, and whether it is there, whole.
-#[derive(Drop)]
+#[derive(Clone, Copy)]
 pub struct Word {
     pub length: usize,
     pub whole: bool,

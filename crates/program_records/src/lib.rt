@@ -8,14 +8,14 @@ use run_pieces::Run;
 use run_text::save_refusal;
 
 // A run, and whether there is one: where START cannot be read there is none.
-#[derive(Drop)]
+#[derive(Clone, Copy)]
 pub struct Start {
     pub run: Run,
     pub ready: bool,
 }
 
 // A record in a buffer that is long enough for any, and what its save gave.
-#[derive(Drop)]
+#[derive(Clone, Copy)]
 pub struct Record {
     pub bytes: [u8; ROOM],
     pub saved: Saved,

@@ -14,27 +14,27 @@ pub type Next = [u8; THREAD_ROWS];
 pub type Levels = [Queue; LEVELS];
 
 // The first and the last thread of a queue, 255 and 255 where it is empty.
-#[derive(Drop)]
+#[derive(Clone, Copy)]
 pub struct Queue {
     pub first: u8,
     pub last: u8,
 }
 
 // The thread that follows each thread in its queue, 255 for the last of a queue and for a thread that stands in none.
-#[derive(Drop)]
+#[derive(Clone, Copy)]
 pub struct Links {
     pub next: Next,
 }
 
 // What an operation hands back: the links, and the one queue that it was about.
-#[derive(Drop)]
+#[derive(Clone, Copy)]
 pub struct Linked {
     pub links: Links,
     pub queue: Queue,
 }
 
 // One queue for each of the 16 priorities.
-#[derive(Drop)]
+#[derive(Clone, Copy)]
 pub struct Queues {
     pub levels: Levels,
 }

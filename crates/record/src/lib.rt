@@ -14,14 +14,14 @@ use sound_page::sound;
 pub const ROOM: usize = 1024;
 
 // What a load gives: its answer, and the kernel, which is boot's where the record is refused.
-#[derive(Drop)]
+#[derive(Clone, Copy)]
 pub struct Loaded {
     pub answer: u8,
     pub kernel: Kernel,
 }
 
 // What a save gives: its answer, and the length written, 0 where it is refused.
-#[derive(Drop)]
+#[derive(Clone, Copy)]
 pub struct Saved {
     pub answer: u8,
     pub length: u16,

@@ -40,7 +40,7 @@ const MOST_CONDITIONS: u16 = CONDITIONS as u16;
 const MOST_TIMERS: u16 = TIMERS as u16;
 
 // What a buffer holds: whether it is of right form, and the page, which has no row where it is of wrong form.
-#[derive(Drop)]
+#[derive(Clone, Copy)]
 pub struct Opened {
     pub formed: bool,
     pub page: Page,

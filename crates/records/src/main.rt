@@ -26,14 +26,14 @@ const BYTE: usize = 256;
 const BLOCKS: usize = 2 * BLOCK;
 
 // The length of the record that follows in a bundle, or that none does.
-#[derive(Drop)]
+#[derive(Clone, Copy)]
 struct Head {
     length: usize,
     ended: bool,
 }
 
 // How far a bundle is read: the number of the last record, and whether it has ended.
-#[derive(Drop)]
+#[derive(Clone, Copy)]
 struct Walk {
     number: u64,
     ended: bool,

@@ -12,7 +12,7 @@ use program_records::{record_of, start_named, write_record};
 use run_pieces::{BLOCK, Run};
 
 // How far the work has come: the run, whether its input has ended, and whether something failed.
-#[derive(Drop)]
+#[derive(Clone, Copy)]
 struct Work {
     run: Run,
     ended: bool,

@@ -12,14 +12,14 @@ use std::num::wrapping_add_u64;
 use value_engine::Engine;
 
 // Lines that are collected: the number of the last one, and how much of the buffer is used.
-#[derive(Drop)]
+#[derive(Clone, Copy)]
 pub struct Lines {
     pub last: u64,
     pub used: usize,
 }
 
 // The engine after some rows, and their lines.
-#[derive(Drop)]
+#[derive(Clone, Copy)]
 pub struct Answered {
     pub engine: Engine,
     pub lines: Lines,

@@ -33,7 +33,7 @@ pub type Output = [u8; OUTPUT];
 
 // A run between two pieces: the engine, the number of the last line, whether the heading or the line of a refused start is written, the bytes of a
 // row that is cut, with their count, and the answer to its start, 0 where that is not refused.
-#[derive(Drop)]
+#[derive(Clone, Copy)]
 pub struct Run {
     engine: Engine,
     last: u64,
@@ -44,14 +44,14 @@ pub struct Run {
 }
 
 // The run after a piece, and how much of the output is used.
-#[derive(Drop)]
+#[derive(Clone, Copy)]
 pub struct Fed {
     pub run: Run,
     pub used: usize,
 }
 
 // A record loaded and saved again: the answer to its load, and what the save gives.
-#[derive(Drop)]
+#[derive(Clone, Copy)]
 pub struct Again {
     pub answer: u8,
     pub saved: Saved,

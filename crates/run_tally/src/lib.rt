@@ -15,21 +15,21 @@ use value_engine::Engine;
 use wheel::WheelWords;
 
 // An engine, and the sum of the answers that it gave, modulo 2 to the power of 64.
-#[derive(Drop)]
+#[derive(Clone, Copy)]
 struct Tally {
     engine: Engine,
     sum: u64,
 }
 
 // The same of an engine in lent arrays: its counts, and the sum.
-#[derive(Drop)]
+#[derive(Clone, Copy)]
 struct Tallied {
     counts: Counts,
     sum: u64,
 }
 
 // A kernel, and the sum of the answers that its public calls gave.
-#[derive(Drop)]
+#[derive(Clone, Copy)]
 struct Called {
     kernel: Kernel,
     sum: u64,

@@ -19,7 +19,7 @@ const HEADING_FROM: usize = TEXT - 26;
 const TEN: u64 = 10;
 
 // A short text: the bytes from a place on, with zeros in front of them.
-#[derive(Drop)]
+#[derive(Clone, Copy)]
 pub struct Text {
     pub bytes: [u8; TEXT],
     pub from: usize,

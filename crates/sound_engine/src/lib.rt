@@ -17,7 +17,7 @@ use value_engine::Engine;
 use wheel::{WheelWords, same_words};
 
 // An engine's page, and whether the engine is sound.
-#[derive(Drop)]
+#[derive(Clone, Copy)]
 pub struct Judged {
     pub sound: bool,
     pub page: Page,

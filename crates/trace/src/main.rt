@@ -11,7 +11,7 @@ use program_records::{record_of, start_named, write_record};
 use run_pieces::{BLOCK, Run};
 
 // How far a trace has come: the run, and whether it has ended.
-#[derive(Drop)]
+#[derive(Clone, Copy)]
 struct Trace {
     run: Run,
     ended: bool,

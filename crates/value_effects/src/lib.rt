@@ -13,7 +13,7 @@ use queue::Queues;
 use value_tables::{Thread, Threads, highest_first};
 
 // A mutex's row: its ceiling, its owner, 255 for none, and its count.
-#[derive(Drop)]
+#[derive(Clone, Copy)]
 pub struct Mutex {
     pub ceiling: u8,
     pub owner: u8,
@@ -47,7 +47,7 @@ pub const SIGNALS: u16 = THREADS as u16;
 
 // The threads; the mutexes, and who waits for each; the mutex that each condition variable is tied to, 255 for none, and who waits on each;
 // the running thread, 255 for none.
-#[derive(Drop)]
+#[derive(Clone, Copy)]
 pub struct Scheduler {
     pub threads: Threads,
     pub mutexes: MutexTable,
@@ -58,7 +58,7 @@ pub struct Scheduler {
 }
 
 // The scheduler after signals, and how many threads left the condition variable.
-#[derive(Drop)]
+#[derive(Clone, Copy)]
 pub struct Signalled {
     pub scheduler: Scheduler,
     pub left: u16,

@@ -29,7 +29,7 @@ use value_tables::{BLANK_THREAD, Threads};
 use wheel::{Due, Wheel};
 
 // A timer's row: its state (0 stopped, 1 one-shot, 2 periodic), its condition variable, 255 for none, and n, which is the repeat of a periodic one.
-#[derive(Drop)]
+#[derive(Clone, Copy)]
 pub struct Timer {
     pub state: u8,
     pub condition: u8,
@@ -50,7 +50,7 @@ pub type TimerTable = [Timer; TIMER_ROWS];
 const EXPIRIES: u16 = TIMERS as u16;
 
 // The whole engine. The four counts say how many rows of each table are in use.
-#[derive(Drop)]
+#[derive(Clone, Copy)]
 pub struct Engine {
     pub scheduler: Scheduler,
     pub timers: TimerTable,
@@ -64,14 +64,14 @@ pub struct Engine {
 }
 
 // The engine that follows, and what was given.
-#[derive(Drop)]
+#[derive(Clone, Copy)]
 pub struct Effect {
     pub engine: Engine,
     pub given: u16,
 }
 
 // The engine that follows, with its answer.
-#[derive(Drop)]
+#[derive(Clone, Copy)]
 pub struct Stepped {
     pub engine: Engine,
     pub answer: Answer,

@@ -8,14 +8,14 @@ use limits::{FOR_MUTEX, NONE, PRIORITIES, READY, RUNNING, THREAD_ROWS, THREADS};
 use queue::{Links, Queues};
 
 // Links, and one set of queues.
-#[derive(Drop)]
+#[derive(Clone, Copy)]
 pub struct Joined {
     pub links: Links,
     pub set: Queues,
 }
 
 // The first of the highest non-empty queue of a set, with its priority; 16 and 255 where all are empty.
-#[derive(Drop)]
+#[derive(Clone, Copy)]
 pub struct Head {
     pub priority: u8,
     pub thread: u8,
@@ -23,7 +23,7 @@ pub struct Head {
 
 // A thread's row: its base priority, its present priority, where it stands (1 ready, 2 running, 3 mutex, 4 condition variable) and
 // the object waited for, 255 for none.
-#[derive(Drop)]
+#[derive(Clone, Copy)]
 pub struct Thread {
     pub base: u8,
     pub priority: u8,
@@ -43,7 +43,7 @@ pub const BLANK_THREAD: Thread = Thread {
 pub type ThreadTable = [Thread; THREAD_ROWS];
 
 // The threads, their links, and the ready queues.
-#[derive(Drop)]
+#[derive(Clone, Copy)]
 pub struct Threads {
     pub rows: ThreadTable,
     pub links: Links,
@@ -51,14 +51,14 @@ pub struct Threads {
 }
 
 // The threads, and the one that runs.
-#[derive(Drop)]
+#[derive(Clone, Copy)]
 pub struct Ran {
     pub threads: Threads,
     pub running: u8,
 }
 
 // The threads, and the set of queues of one mutex or condition variable.
-#[derive(Drop)]
+#[derive(Clone, Copy)]
 pub struct Waiting {
     pub threads: Threads,
     pub set: Queues,

@@ -35,19 +35,19 @@ const SPOKE_FROM: usize = 96;
 const POSITION_AT: usize = 128;
 
 // A wheel: its words and nothing else.
-#[derive(Drop)]
+#[derive(Clone, Copy)]
 pub struct Wheel {
     words: WheelWords,
 }
 
 // The timers that came due at a tick, a bit for each id.
-#[derive(Drop)]
+#[derive(Clone, Copy)]
 pub struct Due {
     ids: u32,
 }
 
 // What a tick gives: the next wheel, the timers that came due, and how many timers were visited.
-#[derive(Drop)]
+#[derive(Clone, Copy)]
 pub struct Ticked {
     pub wheel: Wheel,
     pub due: Due,
@@ -55,7 +55,7 @@ pub struct Ticked {
 }
 
 // What a tick of a lent wheel gives: the timers that came due, and how many timers were visited.
-#[derive(Drop)]
+#[derive(Clone, Copy)]
 pub struct Turned {
     pub due: Due,
     pub visits: u8,
