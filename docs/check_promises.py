@@ -31,7 +31,7 @@ from pathlib import Path
 from typing import Dict, Iterator, List, Tuple
 
 from docs.edits import Wrong, edits, name_of, wrongs
-from docs.shapes import Function, one_result
+from docs.shapes import Function, clauses_in, one_result
 from docs.tree import CRATES, TOP, count, crates
 
 PAGE = TOP / "docs" / "PROMISES.md"
@@ -43,7 +43,7 @@ WHEEL = re.compile(
     r"((specs\.(declared\.\w+|Hung|Promise)|proofs\.Promise)\.\{|"
     r"(specs\.Hung|proofs\.Promise) as |proofs\.\w+\.\w+\.Reads as )"
 )
-# Something of the wheel that a line cites: by a path of facts, or by one of code.
+# Something of the wheel's facts that a line cites.
 CITED = re.compile(r"\bRattle\.wheel\.|\bwheel::(specs|proofs)\b")
 # Names of its inside: what stands behind the promise's names, and the fields
 # of its structs.
@@ -61,8 +61,6 @@ FUNCTION = re.compile(
     r"^( *)pub (?:extern \"C\" )?fn (\w+)\b(.*?)(?: \{\n|\n\2\{)",
     re.M | re.S,
 )
-# Where a clause of a promise begins, with its name where it has one.
-PROMISE = re.compile(r"^ *ensures\b[^{\n]*\{", re.M)
 
 # A public function's head and contract, without its body.
 CONTRACT = re.compile(
@@ -166,16 +164,6 @@ def lent_in(parameters: str) -> Tuple[str, ...]:
     return tuple(re.findall(r"(\w+): &(?:'\w+ )?mut ", parameters))
 
 
-def clauses_in(contract: str) -> Iterator[str]:
-    """What stands in the braces of each clause of a promise."""
-    for begin in PROMISE.finditer(contract):
-        depth, at = 1, begin.end()
-        while depth and at < len(contract):
-            depth += (contract[at] == "{") - (contract[at] == "}")
-            at += 1
-        yield " ".join(contract[begin.end():at - 1].split())
-
-
 def functions_of(crate: str) -> Iterator[Function]:
     """Each public function of a crate."""
     source = texts(crate, "src", ".rt")
@@ -187,10 +175,12 @@ def functions_of(crate: str) -> Iterator[Function]:
         head = re.split(r"\s+ensures\b", part.group(4))[0]
         name = part.group(3)
         name = f"{kind}::{name}" if part.group(2) else name
-        promises = tuple(clauses_in(part.group(4)))
         returns = head.split("->")[1].strip() if "->" in head else ""
         returns = kind if returns == "Self" else returns
-        yield Function(f"{crate}::{name}", returns, lent_in(head), promises)
+        yield Function(
+            f"{crate}::{name}", returns, lent_in(head),
+            tuple(clauses_in(part.group(4))),
+        )
 
 
 def result_by(function: Function, fields: Dict[str, List[str]]) -> str:

@@ -28,6 +28,8 @@ RELATIONS: Mapping[str, Tuple[Tuple[int, ...], str]] = {
     "Gives": ((3, 4), "gives_once"),
     "Ends": ((2, 3), "ends_once"),
 }
+# Where a clause of a promise begins, with its name where it has one.
+CLAUSE = re.compile(r"^ *ensures\b[^{\n]*\{", re.M)
 # Types that have values, so that what holds for every value of one holds.
 INHABITED = ("Timing", "Counts", "State")
 # An array that was lent, or is returned, read as what it stands for, and the
@@ -65,6 +67,16 @@ class Determined:
 
     results: FrozenSet[str]
     theorem: str
+
+
+def clauses_in(code: str) -> Iterator[str]:
+    """What stands in the braces of each clause that code ensures."""
+    for begin in CLAUSE.finditer(code):
+        depth, at = 1, begin.end()
+        while depth and at < len(code):
+            depth += (code[at] == "{") - (code[at] == "}")
+            at += 1
+        yield " ".join(code[begin.end():at - 1].split())
 
 
 def split_top(text: str, sign: str) -> List[str]:
