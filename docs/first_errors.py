@@ -46,8 +46,8 @@ NO_FACT = re.compile(
 FALSE = "allow values at which this goal is false"
 ERROR = re.compile(r"^(?:\./)?(\S+?):(\d+):(\d+): error: (`[^`]+`: .*)$")
 NOTE = re.compile(r"^note: (?:\./)?(\S+?):(\d+):(\d+): (.*)$")
-FUNCTION = re.compile(r"( *)(?:pub )?(?:extern \"C\" )?fn (\w+)")
-MOST_WORDS = 120
+FUNCTION = re.compile(r"\b(?:pub )?(?:extern \"C\" )?fn (\w+)")
+MOST_WORDS = 180
 # What the prover reads of a crate.
 PARTS = ("src", "specs", "proofs")
 KEPT = Path(
@@ -90,17 +90,14 @@ def stretch_of(source: str, function: str) -> Stretch:
     is not there."""
     kind, first = "", 0
     for at, line in enumerate(source.splitlines(), 1):
-        after = re.match(r"(?! *//).*?\bfn (?=\w)", line)
-        if first and after:
-            return Stretch(first, at, after.end() - 2)
         block = re.match(r"impl (\w+)", line)
         kind = block.group(1) if block else kind
-        begin = FUNCTION.match(line)
-        if begin is None:
-            continue
-        name = begin.group(2)
-        if function == (f"{kind}::{name}" if begin.group(1) else name):
-            first = at
+        begin = FUNCTION.search(line.partition("//")[0])
+        if begin and first:
+            return Stretch(first, at, begin.start() + 1)
+        if begin and not line[:begin.start()].strip():
+            name = f"{kind}::" if begin.start() else ""
+            first = at if function == name + begin.group(1) else 0
     return Stretch(first, first and sys.maxsize, 0)
 
 

@@ -17,6 +17,7 @@ from docs.edits import Wrong, applied
 from docs.first_errors import judge
 
 WRONG = Wrong("crate", "first", "gives_the_length", "stop_timer")
+WRONG_BEFORE = Wrong("crate", "first", "two_ticks", "tick")
 DEFINITION = Wrong("crate", "first", "first", "")
 # As the prover says where it looks, at the beginning of a line.
 PROOF = "./proofs/stop_timer/Answers.antt:57:5: error: `returns`: "
@@ -30,7 +31,7 @@ fn tick() -> u8 {
     1
 }
 
-fn stop_timer() -> u8
+pub fn stop_timer() -> u8
     ensures { result ≡ 2 } { 3 / 1 } fn left_over() -> u8 {
     2
 }
@@ -85,6 +86,8 @@ CASES: List[Tuple[str, Wrong, str, bool]] = [
      "note: src/lib.rt:6:38: " + UNPROVED + "\n", False),
     ("one that it made, of another", WRONG,
      "note: src/lib.rt:2:5: " + UNPROVED + "\n", False),
+    ("one that it made, of the function after", WRONG_BEFORE,
+     "note: src/lib.rt:5:1: " + UNPROVED + "\n", False),
     ("a definition", DEFINITION, LAW + "the two types differ\n", True),
     ("a definition that lacks a name", DEFINITION,
      LAW + "`old` is not in scope\n", False),
