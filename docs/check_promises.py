@@ -41,13 +41,14 @@ HEADING = "| Function | Promise | One result by | Rules out |"
 WHEEL = re.compile(
     r"Rattle\.wheel\."
     r"((specs\.(declared\.\w+|Hung|Promise)|proofs\.Promise)\.\{|"
-    r"(specs\.Hung|proofs\.Promise) as |proofs\.\w+\.\w+\.Reads as )"
+    r"(specs\.Hung|proofs\.Promise) as |proofs\.\w+\.\w+\.Reads as )|"
+    r"\bwheel::(specs::(Hung|Promise)|proofs::Promise)::(?!Opened\b)"
 )
 # Something of the wheel's facts that a line cites.
 CITED = re.compile(r"\bRattle\.wheel\.|\bwheel::(specs|proofs)\b")
 # Names of its inside: what stands behind the promise's names, and the fields
-# of its structs.
-INSIDE = re.compile(r"\bOpened\b|\.(words|ids)(?![-\w])")
+# of its structs. A clause of a promise may have a field's name.
+INSIDE = re.compile(r"\bOpened\b|(?<!\bensures)\.(words|ids)(?![-\w])")
 OUTSIDE = ("program_files", "program_records")
 OPEN = "open: it speaks to the system, which decides"
 WRONGS: List[Wrong] = list(wrongs())
