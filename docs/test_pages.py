@@ -126,6 +126,27 @@ def shows_contracts() -> bool:
     ]
 
 
+def goods_of(line: str) -> List[bool]:
+    """What is said of a file that cites the wheel's promise, with a line."""
+    file = tree.CRATES / "high/specs/Wheels.antt"
+    cited = "use Rattle.wheel.specs.Promise.{wheel_in}\n"
+    file.write_text(f"{cited}{line}\n", encoding="utf-8")
+    return [good for _, good in check_promises.check_file(file)]
+
+
+def keeps_out_of_the_wheel() -> bool:
+    """A file that cites the wheel cites its promise alone, and names nothing
+    of its inside; a clause of the promise may have a field's name."""
+    return (
+        goods_of("x = c.rest.ensures.ids") == [True]
+        and goods_of("x = w.ids") == [True, False]
+        and goods_of("use Rattle.wheel.specs.Inside.{made}") == [True, False]
+        and goods_of("use Rattle.wheel.specs.Promise.Opened.{wheel_is}")
+        == [True, False, False]
+        and goods_of("// using(wheel::proofs::Laws::start)") == [True, False]
+    )
+
+
 def reads_clauses() -> bool:
     """A function's promise is all that its clauses have in their braces, also
     of those that have a name, and nothing of the next one's."""
@@ -226,6 +247,7 @@ TRIALS: Sequence[Tuple[str, Callable[[], bool]]] = (
     ("the blocks of a page", holds_blocks),
     ("what a page has to show", holds_what_is_shown),
     ("the contracts that it has to show", shows_contracts),
+    ("what is cited of the wheel", keeps_out_of_the_wheel),
     ("the clauses of a promise", reads_clauses),
     ("functions that ask for nothing", asks_for_nothing),
     ("names that are not followed", refuses_other_forms),
