@@ -56,28 +56,33 @@ LONGEST = 536
 # module of `broken` does not compile.
 KIT = {
     "bin/rt": """
-home=${RATTLE_HOME:-$(dirname "$(dirname "$0")")}
-own=$home/on/$(uname -m)
+own=$(dirname "$(dirname "$(readlink -f "$0")")")
+crate=${PWD##*/}
 case $1 in
-doc) echo "$home/docs/START-HERE.md" ;;
-staticlib)
-    rm -f target/stamp/*
-    echo "$2" >target/module.bc
-    [ "$2" != unproved ] || "$own/bin/rattle" build below || exit
+doc) echo "$own/START-HERE.md" ;;
+lib)
+    [ -f "$own/bin/rtlib.py" ] || exit
+    rm -f ../below/out/rlib/stamp
+    "$own/bin/rattle" build --help || exit
+    echo "$crate" >out/module.bc
+    [ "$crate" != unproved ] || "$own/bin/rattle" build below || exit
     "$own/bin/rattle" build --crate-type staticlib "$own/toolchain"
     ;;
 esac
 """,
-    f"on/{platform.machine()}/bin/rattle": """
-"$4/bin/clang" -c target/module.bc
+    "bin/rtlib.py": "",
+    "bin/rattle": """
+[ "$2" = --help ] || "$4/bin/clang" -c out/module.bc
 """,
-    f"on/{platform.machine()}/toolchain/bin/clang": """
+    "toolchain/bin/clang": """
 [ $# -gt 2 ] || exit 0
 for word; do case $word in *.bc) module=$word ;; esac; last=$word; done
 ! grep broken "$module" || exit
 { echo "$1" && cat "$module"; } >"$last"
 """,
 }
+# Of the crate below them, what says that it is proved.
+STAMP = "crates/below/out/rlib/stamp"
 # A word that lasts, and an object of it in whose end the signal comes, which
 # a job in the background would ignore.
 LOST = """
@@ -463,41 +468,43 @@ class Signals(unittest.TestCase):
 class Kit(unittest.TestCase):
     """What of the kit runs a program, on each machine."""
 
-    def on(self, machine: str, home: str = "/kit") -> None:
-        """Be on a machine, with a kit in this folder, or with none."""
+    def on(self, machine: str, **commands: str) -> None:
+        """Be on a machine where these commands stand, and no others."""
         here = mock.patch.object(platform, "machine", return_value=machine)
         here.start()
         self.addCleanup(here.stop)
-        found = mock.patch.dict(os.environ, RATTLE_HOME=home, PATH="")
+        found = mock.patch.object(shutil, "which", commands.get)
         found.start()
         self.addCleanup(found.stop)
 
     def test_itself(self) -> None:
         """On x86-64 a program runs by itself, and needs no kit; beside plain
         C it has the kit's C library."""
-        self.on("x86_64")
-        tools = "/kit/on/x86_64/toolchain"
+        self.on("x86_64", rt="/kit/bin/rt")
         self.assertEqual(kit.command_of("/program"), ["/program"])
         self.assertEqual(kit.loaded("/program"), [
-            f"{tools}/lib/ld-linux-x86-64.so.2", "--library-path",
-            f"{tools}/lib", "/program",
+            "/kit/toolchain/lib/ld-linux-x86-64.so.2", "--library-path",
+            "/kit/toolchain/lib", "/program",
         ])
-        self.on("x86_64", "")
+        self.on("x86_64")
         self.assertEqual(kit.command_of("/program"), ["/program"])
 
     def test_emulated(self) -> None:
-        """Elsewhere it runs under the kit's emulator, with its loader and C
-        library; without a kit that is said."""
-        self.on("aarch64")
-        tools = "/kit/on/aarch64/toolchain"
+        """Elsewhere it runs under an emulator, with the kit's loader and C
+        library; without one of the two that is said."""
+        emulator = {"qemu-x86_64": "/bin/qemu-x86_64"}
+        self.on("aarch64", rt="/kit/bin/rt", **emulator)
         command = [
-            f"{tools}/bin/qemu-x86_64", f"{tools}/lib/ld-linux-x86-64.so.2",
-            "--library-path", f"{tools}/lib", "/program",
+            "/bin/qemu-x86_64", "/kit/toolchain/lib/ld-linux-x86-64.so.2",
+            "--library-path", "/kit/toolchain/lib", "/program",
         ]
         self.assertEqual(kit.command_of("/program"), command)
         self.assertEqual(kit.loaded("/program"), command)
-        self.on("aarch64", "")
+        self.on("aarch64", **emulator)
         with self.assertRaisesRegex(Trouble, "^rt is not found, and "):
+            kit.command_of("/program")
+        self.on("aarch64", rt="/kit/bin/rt")
+        with self.assertRaisesRegex(Trouble, "^qemu-x86_64 is not found, "):
             kit.command_of("/program")
 
 
@@ -518,7 +525,7 @@ class Places(unittest.TestCase):
         )
 
     def test_emulator(self) -> None:
-        """Where the emulator stands."""
+        """What the emulator is called."""
         self.assertEqual(self.files_with("qemu-"), ["words/kit.py"])
 
     def test_path(self) -> None:
@@ -541,8 +548,8 @@ class Native(Folder):
         self.put("tree/bench/native", own.read_text("utf-8"))
         for crate in ("whole", "unproved", "broken"):
             self.put(f"tree/crates/{crate}/src/lib.rt", "")
-        for name in ("crates.txt", "target/stamp/below", "target/rlib/below"):
-            self.put(f"tree/{name}", "")
+        self.put("tree/crates.txt", "")
+        self.put(f"tree/{STAMP}", "")
         self.put("rooms/mine", "")
 
     def put(self, name: str, text: str) -> None:
@@ -551,6 +558,14 @@ class Native(Folder):
         file.parent.mkdir(parents=True, exist_ok=True)
         file.write_text(text, "utf-8")
         file.chmod(0o755)
+
+    def built(self) -> List[str]:
+        """What is built in the tree."""
+        tree = self.folder / "tree"
+        files = tree.glob("crates/*/out/**/*")
+        return sorted(
+            str(file.relative_to(tree)) for file in files if file.is_file()
+        )
 
     def native(self, *words: str, path: str = "") -> Tuple[int, List[str]]:
         """Its status, and what it says, with the kit in the path unless that
@@ -572,8 +587,7 @@ class Native(Folder):
         self.assertEqual(Path("out.o").read_text("utf-8").splitlines(), [
             f"--target={platform.machine()}-unknown-linux-gnu", "whole",
         ])
-        self.assertEqual(os.listdir("tree/target/stamp"), ["below"])
-        self.assertEqual(sorted(os.listdir("tree/target")), ["rlib", "stamp"])
+        self.assertEqual(self.built(), [STAMP])
 
     def test_use(self) -> None:
         """Wrong use is said."""
@@ -590,14 +604,14 @@ class Native(Folder):
         ):
             status, lines = self.native(*words)
             self.assertEqual((status, lines[-1]), (1, said))
-        shutil.rmtree("tree/target/stamp")
+        shutil.rmtree("tree/crates/below/out")
         status, lines = self.native("whole", "out.o")
         self.assertEqual(status, 1)
         self.assertRegex(lines[-1], "^native: nothing is proved in .*/tree$")
-        Path(f"kit/on/{platform.machine()}/toolchain/bin/clang").unlink()
+        Path("kit/toolchain/bin/clang").unlink()
         status, lines = self.native("whole", "out.o")
         self.assertEqual(status, 1)
-        self.assertRegex(lines[-1], "^native: the kit has no compiler for ")
+        self.assertRegex(lines[-1], "^native: the kit has no compiler, ")
         self.assertNotIn("out.o", self.names())
 
     def test_no_kit(self) -> None:
@@ -617,7 +631,7 @@ class Native(Folder):
             "it is not proved, and native proves nothing",
             "native: the library of unproved could not be built",
         ]))
-        self.assertEqual(os.listdir("tree/target/stamp"), ["below"])
+        self.assertEqual(self.built(), [STAMP])
         self.assertEqual(self.native("broken", "out.o"), (1, [
             "broken",
             "native: the module of broken could not be compiled for "
@@ -737,7 +751,7 @@ class Ratios(Folder):
         """Nothing is compiled anew where programs are the processor's own;
         elsewhere bench/native is asked, under the lock of the words."""
         native = str(TOP / "bench" / "native")
-        made = str(self.folder / "run_tally.o")
+        made = str(self.folder / "run_tally_c.o")
         for emulated in (False, True):
             objects = [made] if emulated else []
             with mock.patch.multiple(
@@ -746,7 +760,7 @@ class Ratios(Folder):
             ) as found:
                 self.assertEqual(ratio.native_object(self.folder), objects)
             self.assertEqual(found["locked"].called, emulated)
-        found["run"].assert_called_once_with([native, "run_tally", made])
+        found["run"].assert_called_once_with([native, "run_tally_c", made])
 
 
 class Words(unittest.TestCase):
