@@ -112,9 +112,10 @@ def listed_in(top: Path) -> Dict[str, List[str]]:
     those that it is listed with."""
     found: Dict[str, List[str]] = {}
     for line in (top / "crates.txt").read_text("utf-8").splitlines():
-        name, colon, rest = line.partition("#")[0].partition(":")
+        head, colon, rest = line.partition("#")[0].partition(":")
         if colon:
-            found[name.strip()] = rest.split()
+            # A static library has that word after its name.
+            found[head.split()[0]] = rest.split()
     return found
 
 
