@@ -14,11 +14,12 @@ import re
 import shutil
 import subprocess
 from pathlib import Path
-from typing import List, Tuple
+from typing import List
 
 from compare.held import TOP
 from compare.trying import (
-    RUN, RUN_TEXT, SECONDS, Done, Terminal, Trial, door, hear_signals, put,
+    RUN, RUN_TEXT, SECONDS, Done, Terminal, Trial, door, hear_signals, into,
+    not_done, put,
 )
 
 CRATES = "run:\nrun_tally_c staticlib:\n"
@@ -131,6 +132,14 @@ def bench_tells(small: Small) -> bool:
     return told is not None and library.is_file()
 
 
+def bench_into_full(small: Small) -> bool:
+    """Where standard output cannot be written, bench ends with 2."""
+    door_file = small.top / "tehuamozo"
+    done = into(small.room, "/dev/full", "bench", door_file=door_file)
+    print(done)
+    return not_done(done, "standard output", "No space left")
+
+
 def refuses_edit(small: Small) -> bool:
     """What the prover refuses is said, and nothing is run."""
     source = small.top / "crates" / "run" / "src" / "main.rt"
@@ -148,10 +157,9 @@ def refuses_edit(small: Small) -> bool:
 def real_prover(room: Path) -> bool:
     """All of these, in one small tree."""
     small = Small(room)
-    return all(
-        tried(small)
-        for tried in (builds_once, counts_axioms, bench_tells, refuses_edit)
-    )
+    return all(tried(small) for tried in (
+        builds_once, counts_axioms, bench_tells, bench_into_full, refuses_edit
+    ))
 
 
 # The prover takes all that the machine has.

@@ -45,7 +45,9 @@ PARTS = ("src", "specs", "proofs", "stdin", "stdout", "args", "status", "data")
 SECONDS_TO_END = 10.0
 CHECKED = re.compile(rb"^crate ([a-z_0-9]+): modules ", re.MULTILINE)
 # Lines of the prover that say nothing of what is wrong.
-ALL_WELL = re.compile(r": proved(, .*)?$|^(statements|axioms|logic|crate) ")
+ALL_WELL = re.compile(
+    r": proved(, .*)?$|^(statements|axioms|logic|library|crate|rt: chose) "
+)
 MOST_LINES = 60
 
 

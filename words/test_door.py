@@ -30,7 +30,7 @@ from unittest import mock
 from bench import measuring, ratio
 from bench.measuring import Place, Run
 from bench.ratio import Budget, Column, Table
-from words import kit, running, sources
+from words import built, kit, running, sources, verdicts
 from words.borrowed import Answer
 from words.built import TOP
 from words.programs import (
@@ -42,6 +42,7 @@ from words.streams import Output, Room, Trouble, printable
 from words.testing import record, run_tests
 from words.texts import calls_of_rows
 from words.timeline import pictures
+from words.verdicts import Verdict
 
 OLD = b"what was there before"
 BOOT = bytes.fromhex(
@@ -638,6 +639,77 @@ class Native(Folder):
             f"{platform.machine()}",
         ]))
         self.assertNotIn("out.o", self.names())
+
+
+class Verdicts(Folder):
+    """What the prover said of a program, and what is kept of it."""
+
+    WORDS = """\
+== one: its tests
+crate one: modules loaded=0 checked=2
+axioms os: none reached of the 22 declared
+logic=proved tests=1 functions=8 axioms=12 target=x
+rt: one: its tests are proved
+== one
+crate below: modules loaded=0 checked=1
+logic=proved functions=1 axioms=1 target=x
+crate one: modules loaded=0 checked=1
+axioms libc: libc::read, libc::write (2 of the 128 declared)
+logic=proved functions=7 axioms=8 target=x
+rt: one proved
+== other
+crate other: modules loaded=0 checked=1
+logic=not-proved functions=2
+"""
+
+    def test_found(self) -> None:
+        """That on the crate, not on its tests, one below or another."""
+        for crate, line in (
+            ("one", "logic=proved functions=7 axioms=8 target=x"),
+            ("below", "logic=proved functions=1 axioms=1 target=x"),
+            ("other", ""), ("on", ""),
+        ):
+            self.assertEqual(verdicts.found(crate, self.WORDS), line)
+
+    def test_kept(self) -> None:
+        """For the file of its stamp, and for no other."""
+        place, verdict = Path("one.verdict"), Verdict("logic=", ["a", "b"])
+        self.assertIsNone(verdicts.kept(place, "stamp\n"))
+        verdicts.keep(place, "stamp\n", verdict)
+        self.assertEqual(verdicts.kept(place, "stamp\n"), verdict)
+        self.assertIsNone(verdicts.kept(place, "stamp of another\n"))
+        self.assertEqual(self.names(), ["one.verdict"])
+
+    def test_complaints(self) -> None:
+        """What is well is not shown beside what is wrong."""
+        words = (
+            "rt: chose --jobs 2 for one\nfn one::a: proved\n"
+            "fn one::b: proved, may abort\nfn one::c: not proved\n"
+            "src/lib.rt:1:1: error: no\nstatements os: modules loaded=26\n"
+            "crate one: modules loaded=0\naxioms os: none\n"
+            "logic=not-proved functions=2\n"
+        )
+        self.assertEqual(
+            built.complaints(words), "fn one::c: not proved\n"
+            "src/lib.rt:1:1: error: no\nlogic=not-proved functions=2"
+        )
+
+
+class Crates(Folder):
+    """The list of crates."""
+
+    def test_listed(self) -> None:
+        """Libraries, programs and static libraries, by their names."""
+        Path("crates.txt").write_text(
+            "# of those below: none\nlow:\nhigh: low std\n"
+            "high_c staticlib: high # for C\n", "utf-8"
+        )
+        listed: Dict[str, List[str]]
+        listed = {"low": [], "high": ["low", "std"], "high_c": ["high"]}
+        self.assertEqual(built.listed_in(self.folder), listed)
+        self.assertEqual(
+            built.reached("high_c", listed), ["high", "high_c", "low", "std"]
+        )
 
 
 class Ratios(Folder):
