@@ -19,7 +19,7 @@ use Rattle.rules_soundness.proofs.Fits.{Ordered, here, here_prio}
 use Rattle.rules_soundness.proofs.Rows.{Real, not_running, standing_exists, at_stand, priority_stand, length_stand, length_own, length_tie}
 use Rattle.rules_soundness.proofs.Facts.{Queued}
 use Rattle.rules_soundness.proofs.Calls.{stands_there}
-use Rattle.book.specs.Book.{Book, thread, stand, own, priority, stands_at, there, above, below, marks_for, arrive, arrive_in_front}
+use Rattle.book.specs.Book.{Book, stand, own, priority, stands_at, there, above, below, marks_for, arrive, arrive_in_front}
 use Rattle.book.specs.Turns.{tie}
 use Rattle.book.proofs.Marks.{under_above, over_below}
 use Rattle.book.proofs.Alike.{rows_in, mark_of, threads_in_lem, at_in, priority_in, stand_in, own_in, tie_in_lem, mark_new, mark_old, Earlier, Marked, Alike, ordered_back, ordered_tail, has_set, marked_set, marked_but, marked_rows}

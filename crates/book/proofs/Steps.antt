@@ -15,7 +15,7 @@ use Rattle.calls.specs.declared.Verdict.TheVariants.{Done}
 use Rattle.calls.specs.Answers.{number_of, nothing}
 use Rattle.rules.specs.State.{State}
 use Rattle.rules.specs.Next.{choose_next}
-use Rattle.rules.specs.Effects.{with_scheduler, given}
+use Rattle.rules.specs.Effects.{with_scheduler}
 use Rattle.rules.specs.Refusals.{verdict_of}
 use Rattle.rules.specs.Sound.{sound}
 use Rattle.rules.specs.Step.{Stepped, after, runner, accepted, refused, step_sound, step_decoded}

@@ -1,4 +1,6 @@
 // A page: what a saved record says, as plain rows of numbers. Rows past a table's count say nothing and are blank.
+#![tactic(auto)]
+
 ghost use Rattle.std.specs.Prelude.{◌≡◌, get_or};
 ghost use Rattle.page.specs.Says.{no_thread_row, no_mutex_row, no_timer_row, page_for, empty_page};
 

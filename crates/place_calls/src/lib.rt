@@ -1,4 +1,6 @@
 // Calls 1 to 10, which leave timers and wheel alone, with the scheduler changed in place.
+#![tactic(auto)]
+
 ghost use Rattle.std.specs.Prelude.{◌≡◌, true, false};
 ghost use Rattle.calls.specs.Answers.{number_of};
 ghost use Rattle.place_tables.specs.Cells.{scheduler_in};

@@ -1,5 +1,7 @@
 // The clock in one array of words, changed in place: a word for each timer's row, and the tick count.
 // specs/Clock.antt says how a row stands in a word. A timer's id is taken modulo 32, so that every function is total; callers hand in ids that exist.
+#![tactic(auto)]
+
 ghost use Rattle.std.specs.Prelude.{◌≡◌, get_or, set};
 ghost use Rattle.place_clock.specs.Clock.{clock_in, clock_of, timer_of, with_timer, with_timers, with_count};
 

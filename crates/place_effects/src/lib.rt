@@ -1,5 +1,7 @@
 // What the calls on mutexes and condition variables do to the scheduler, in place.
 // An id is taken modulo the size of its table, so that every function is total; callers hand in ids that exist.
+#![tactic(auto)]
+
 ghost use Rattle.std.specs.Prelude.{◌≡◌};
 ghost use Rattle.value_effects.specs.Effects.{highest_in, settle_model, own_model, recount_model, create_model, pass_model, acquire_model, release_model, wait_model, wake_model, signal_model, broadcast_model, create_mutex_model};
 ghost use Rattle.refusals.specs.Verdicts.{owned_in};

@@ -1,5 +1,7 @@
 // The scheduler as a struct from its array of bytes, and the array from the struct: each table by one loop.
 // Of the sets of queues, kind 0 has those of the mutexes and kind 1 those of the condition variables; a kind is taken modulo 2 and a set modulo 33.
+#![tactic(auto)]
+
 ghost use Rattle.std.specs.Prelude.{◌≡◌, ◌+◌, ◌%◌};
 ghost use Rattle.laws.specs.Lists.{tabulate};
 ghost use Rattle.place_tables.specs.Cells.{thread_in, link_in, queue_in, set_in, mutex_in, tie_in, scheduler_in};

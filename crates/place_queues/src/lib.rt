@@ -1,6 +1,8 @@
 // How threads move, in place: they join and leave queues, run, and wait. Set 0 holds the ready queues, sets 1 to
 // 16 those of the mutexes, sets 17 to 32 those of the condition variables.
 // An id is taken modulo the size of its table, and a thread of 32 or more joins no queue, so that every function is total; callers hand in ids that exist.
+#![tactic(auto)]
+
 ghost use Rattle.std.specs.Prelude.{◌≡◌, ◌%◌};
 ghost use Rattle.queue.specs.Linking.{ahead_model};
 ghost use Rattle.value_tables.specs.Tables.{head_model};

@@ -1,4 +1,6 @@
 // A row as one call on a kernel that stands in three lent arrays, and the engine taken apart so and put together.
+#![tactic(auto)]
+
 ghost use Rattle.std.specs.Prelude.{◌≡◌};
 ghost use Rattle.calls.specs.Rows.{decoded};
 ghost use Rattle.wheel.specs.Promise.{wheel_in};

@@ -1,6 +1,8 @@
 // The scheduler's tables in one array of bytes, changed in place: what is lent is not copied, as a struct by value is at every level.
 // specs/Cells.antt says where each table stands. Set 0 holds the ready queues, sets 1 to 16 those of the mutexes, sets 17 to 32 those of the condition variables.
 // An id is taken modulo the size of its table, so that every function is total; callers hand in ids that exist.
+#![tactic(auto)]
+
 ghost use Rattle.std.specs.Prelude.{◌≡◌, ◌%◌, get_or, set};
 ghost use Rattle.queue.specs.Linking.{highest_model};
 ghost use Rattle.value_tables.specs.Tables.{row_of};

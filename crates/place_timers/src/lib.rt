@@ -1,4 +1,6 @@
 // Calls 11 to 13, which change timers and wheel: scheduler, clock and wheel stand in three lent arrays and are changed in place.
+#![tactic(auto)]
+
 ghost use Rattle.std.specs.Prelude.{ℕ, ◌≡◌, List};
 ghost use Rattle.wheel.specs.Promise.{ids_of};
 ghost use Rattle.value_engine.specs.Engines.{start_timer_model, timer_stopped, stop_timer_model, serve_model, serve_all_model, tick_model};

@@ -1,5 +1,7 @@
 // The page that a saved record holds, and whether the record is of right form: its counts fit, its states are among the document's, and it is,
 // byte for byte, the record that is written of the page read from it.
+#![tactic(auto)]
+
 ghost use Rattle.std.specs.Prelude.{◌+◌, ◌≡◌, ◌&&◌, get_or};
 ghost use Rattle.laws.specs.Lists.{tabulate};
 ghost use Rattle.rules.specs.Page.{each_row, thread_formed, timer_formed, page_formed};

@@ -1,5 +1,7 @@
 // The saved record of a page, written into a lent buffer from its first byte on. What does not fit is not stored, and nothing past the record is
 // touched.
+#![tactic(auto)]
+
 ghost use Rattle.std.specs.Prelude.{◌+◌, ◌*◌, ◌≡◌, cond, [], ◌∷◌, ◌++◌, length};
 ghost use Rattle.std.proofs.lemmas.List.Edits.{sets};
 ghost use Rattle.record_bytes.specs.Record.{word, header_bytes, timer_bytes, record_of};

@@ -1,4 +1,6 @@
 // The verdicts: whether a call can be done, from what it asks of the kernel, with the first test that fails in document 01's order.
+#![tactic(auto)]
+
 ghost use Rattle.std.specs.Prelude.{◌≡◌};
 ghost use Rattle.refusals.specs.Verdicts.{created_verdict, room_verdict, start_verdict, acquire_verdict, release_verdict, held_verdict, ids_verdict, first_verdict, id_verdict, start_timer_verdict, stop_verdict, owned_one, owned_in};
 

@@ -1,6 +1,6 @@
 -- Creating a thread, a mutex or a condition variable keeps soundness.
 -- Assumes nothing.
-use Prim.Native.Nat.{ℕ, zero, suc, ◌+◌, ◌<◌, ◌≤◌, max}
+use Prim.Native.Nat.{ℕ, zero, suc, ◌<◌, ◌≤◌, max}
 use mathlib.Core.Path.{◌≡◌, refl, sym, ap, ◌∙◌, subst}
 use mathlib.Core.Bool.{Bool, true, false, cond, false≢true, true≢false}
 use mathlib.Core.List.{List, [], ◌∷◌, ◌++◌}
@@ -328,7 +328,7 @@ pub kept_condition : {h : Scheduler} → Kept h → length h.rows.ties < 16 → 
 unfolding condition_created
 kept_condition {h} o room = record {
   facts = facts_condition h.rows o.facts room;
-  ties = λ c none. same_tied h.rows c ∙ o.ties c (unfold at in none);
+  ties = λ c none. same_tied h.rows c ∙ o.ties c (nobody c none);
   queued = record {
     mutexes = o.queued.mutexes;
     conditions = length_more h.sets.condition empty_set ∙ ap suc o.queued.conditions ∙ sym (length_more h.rows.ties 255);
@@ -336,6 +336,9 @@ kept_condition {h} o room = record {
   };
 }
   where
+    nobody : (c : ℕ) → ((u : ℕ) → at (with_condition h.rows) (on_condition c) u ≡ false) → (u : ℕ) → at h.rows (on_condition c) u ≡ false
+    nobody c none = unfold at in none
+
     as_before : (w : Where) {qs : QueueSet} → Fits (at h.rows w) (priority h.rows) Apart qs → Fits (at (with_condition h.rows) w) (priority (with_condition h.rows)) Apart qs
     as_before w f = unfold at priority in f
 

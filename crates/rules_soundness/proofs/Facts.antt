@@ -267,7 +267,7 @@ facts_tie {k} f c m there fit = record {
   ceilings_from_1 = unfold tie in f.ceilings_from_1;
   idle = unfold tie in f.idle;
   idle_owns = unfold tie in f.idle_owns;
-  real = λ w u z e. unfold tie at in (rw (length_tie k c m) (f.real w u z e));
+  real = real;
   free = unfold tie at in f.free;
   uncounted = unfold tie in f.uncounted;
   held = λ i e. unfold tie in (let h = f.held i e in record { exists = h.exists; some = h.some; most = h.most; base = h.base });
@@ -276,6 +276,9 @@ facts_tie {k} f c m there fit = record {
   waiters = λ d u e. waiter d u (unfold tie at in e) (eqb d c) refl;
 }
   where
+    real : (w : Where) (u : ℕ) → same running w ≡ false → at (tie k c m) w u ≡ true → Real (tie k c m) w
+    real w u z e = unfold tie at in (rw (length_tie k c m) (f.real w u z e))
+
     waiter : (d u : ℕ) → at k (on_condition d) u ≡ true → (y : Bool) → eqb d c ≡ y → Waiter (tie k c m) d u
     waiter d u e true q = record {
       exists = rw (tied_tie k c m d there, q) (unfold tie in here.0);

@@ -1,7 +1,7 @@
 -- When a set of queues holds exactly those who stand at one place, each in the queue of its priority and in order of arrival, and how that is
 -- kept by an arrival at the back or the front and when the first leaves. Proved once, over any place and any order of arrival.
 -- Assumes nothing.
-use Prim.Native.Nat.{ℕ, zero, suc, ◌+◌, ◌<◌, ◌≤◌, zero-le}
+use Prim.Native.Nat.{ℕ, zero, suc, ◌<◌, ◌≤◌, zero-le}
 use mathlib.Core.Path.{◌≡◌, refl, sym, ap, ◌∙◌, subst, fun_ext}
 use mathlib.Core.Bool.{Bool, true, false, not, ◌||◌, ◌&&◌, false≢true}
 use mathlib.Core.List.{List, [], ◌∷◌, ◌++◌, tail}

@@ -144,6 +144,16 @@ stand_stand k t v w there =
 
 -- ---- changing hands
 
+-- a mutex that changes hands moves no thread
+at_own : (k : Rows) (m t n : ℕ) (w : Where) (u : ℕ) → at (own k m t n) w u ≡ at k w u
+unfolding own at
+at_own k m t n w u = refl
+
+-- who runs stands at no place of waiting, nor among the ready
+runs_elsewhere : (k : Rows) (w : Where) → Real k w → (u x : ℕ) → (thread k x).stands ≡ running → x ≡ u → at k w u ≡ false
+unfolding at
+runs_elsewhere k w r u x z y = rw (← y, z) (not_running (length k.mutexes) (length k.ties) w r)
+
 pub queued_own : {k : Rows} {s : Sets} → Queued k s → (m t n : ℕ) → (thread k (mutex k m).owner).stands ≡ running → (thread k t).stands ≡ running → Queued (own k m t n) s
 queued_own {k} {s} q m t n old new = record {
   mutexes = q.mutexes ∙ sym (length_own k m t n);
@@ -158,10 +168,10 @@ queued_own {k} {s} q m t n old new = record {
     back (on_condition c) r = unfold own in r
 
     aside : (w : Where) → Real k w → (u x : ℕ) → (thread k x).stands ≡ running → at k w u ≡ true → x ≡ u → ⊥
-    aside w r u x z e y = no_way (at k w u) e (unfold at in (rw (← y, z) (not_running (length k.mutexes) (length k.ties) w r)))
+    aside w r u x z e y = no_way (at k w u) e (runs_elsewhere k w r u x z y)
 
     fits : (w : Where) → Real k w → Fits (at (own k m t n) w) (priority (own k m t n)) Apart (set_at s w)
-    fits w r = fits_frame (q.fits w r) (λ u. unfold own at in refl) (λ u e. priority_own k m t n u (aside w r u (mutex k m).owner old e) (aside w r u t new e)) (λ u v a b z. z)
+    fits w r = fits_frame (q.fits w r) (λ u. at_own k m t n w u) (λ u e. priority_own k m t n u (aside w r u (mutex k m).owner old e) (aside w r u t new e)) (λ u v a b z. z)
 
 pub queued_tie : {k : Rows} {s : Sets} → Queued k s → (c m : ℕ) → Queued (tie k c m) s
 queued_tie {k} {s} q c m = record { mutexes = unfold tie in q.mutexes; conditions = q.conditions ∙ sym (length_tie k c m); fits = λ w r. unfold tie at priority in (q.fits w (back w r)) }

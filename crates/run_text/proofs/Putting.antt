@@ -34,6 +34,15 @@ unfolding put_all
 put_append t [] ys = refl
 put_append t (x ∷ xs) ys = ap (λ u. put_model u x) (put_append t xs ys)
 
+-- a byte in front of a list, and none
+put_first : (t : Text) (b : ℕ) (l : List ℕ) → put_all t (b ∷ l) ≡ put_model (put_all t l) b
+unfolding put_all
+put_first t b l = refl
+
+put_none : (t : Text) → put_all t [] ≡ t
+unfolding put_all
+put_none t = refl
+
 -- the last of the first n bytes, and then those before it
 pub put_last : (t : Text) (l : List ℕ) (n : ℕ) → 0 < n → n ≤ length l → put_all t (take n l) ≡ put_all (put_model t (get_or l (n - 1) 0)) (take (n - 1) l)
 unfolding put_all
@@ -62,8 +71,8 @@ line_fits n answer a b c d =
 pub line_put : (n : ℕ) (answer : Answer) → n < 2 ^ 64 → answer.number < 256 → answer.given < 65536 → answer.running < 256
     → put_all (put_model (put_all (put_model (put_all (put_model (put_all (put_model (text_of []) 10) (digits answer.running)) 32) (digits answer.given)) 32) (digits answer.number)) 32) (digits n)
     ≡ text_of (line_bytes n answer)
-unfolding line_bytes put_all
-line_put n answer a b c d = sym (simp put_append) ∙ put_all_lem (line_bytes n answer) (line_fits n answer a b c d)
+unfolding line_bytes
+line_put n answer a b c d = sym (simp (put_append, put_first, put_none)) ∙ put_all_lem (line_bytes n answer) (line_fits n answer a b c d)
 
 -- the line of what is refused has at most 48 bytes
 pub refusal_fits : (words : List ℕ) (answer : ℕ) → length words ≤ 15 → answer < 256 → length (words ++ (digits answer ++ (10 ∷ []))) ≤ 48
@@ -79,8 +88,8 @@ refusal_put words answer w h = sym (simp put_append) ∙ put_all_lem (words ++ (
 pub entry_put : (n answer size : ℕ) → n < 2 ^ 64 → answer < 256 → size < 65536
     → put_all (put_model (put_all (put_model (put_all (put_model (text_of []) 10) (digits size)) 32) (digits answer)) 32) (digits n)
     ≡ text_of (entry_bytes n answer size)
-unfolding entry_bytes put_all
+unfolding entry_bytes
 entry_put n answer size a b c =
     let fits : length (entry_bytes n answer size) ≤ 48 =
     simp length-append (omega (arith, few_digits 19 n (omega arith), few_digits 2 answer (omega arith), few_digits 4 size (omega arith))) in
-    sym (simp put_append) ∙ put_all_lem (entry_bytes n answer size) fits
+    sym (simp (put_append, put_first, put_none)) ∙ put_all_lem (entry_bytes n answer size) fits

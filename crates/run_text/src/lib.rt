@@ -1,6 +1,8 @@
 // The text of a run: the heading, and one line for each row, its number and the three numbers of its answer, in decimal; of a record or a save that
 // is refused, and of a record in a list of them.
 // A text is put together from its last byte to its first, since a number gives its last digit first.
+#![tactic(auto)]
+
 ghost use Rattle.std.specs.Prelude.{◌≡◌, [], ◌+◌, ◌%◌, ◌≤◌, length};
 ghost use Rattle.run_text.specs.Texts.{text_of, put_model, put_all, digits, line_bytes, heading_bytes, refusal_bytes, save_refusal_bytes, entry_bytes, bytes_of, collected, used_after};
 

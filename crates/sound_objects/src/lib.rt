@@ -1,5 +1,7 @@
 // Whether the objects of a page are sound, clause by clause: ceilings, mutexes with their owners and waiters, condition variables, timers.
 // An id is taken modulo the size of its table, so that every function is total; the limits are tested first.
+#![tactic(auto)]
+
 ghost use Rattle.std.specs.Prelude.{◌≡◌};
 ghost use Rattle.sound_objects.specs.Objects.{ceilings_in, mutex_waiter_fits, mutex_waiters_in, owner_fits, mutex_fits, mutexes_in, ceiling_of, condition_waiter_fits, condition_waiters_in, tie_fits, condition_fits, conditions_in, ticks_fit, timer_fits, timers_in};
 

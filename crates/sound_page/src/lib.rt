@@ -1,5 +1,7 @@
 // Whether a page is sound: the limits, and then the form of the states and the clauses in the definition's order, each a function of its own.
 // An id is taken modulo the size of its table, so that every function is total; the limits are tested first.
+#![tactic(auto)]
+
 ghost use Rattle.std.specs.Prelude.{◌≡◌, ◌&&◌};
 ghost use Rattle.rules.specs.Page.{page_formed, page_sound};
 ghost use Rattle.page.specs.Says.{said};

@@ -1,5 +1,7 @@
 // What the clauses on a page read of its tables: where threads stand, their priorities, who owns nothing, and which thread runs.
 // An id is taken modulo the size of its table, so that every function is total; the limits are tested first.
+#![tactic(auto)]
+
 ghost use Rattle.std.specs.Prelude.{◌≡◌, not};
 ghost use Rattle.units.specs.Units.{outside};
 ghost use Rattle.rules.specs.State.{same};

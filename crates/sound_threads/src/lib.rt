@@ -1,5 +1,7 @@
 // Whether the threads of a page are sound, clause by clause: bases, thread 0, the runner, none ready above it, objects that exist, objects, places.
 // An id is taken modulo the size of its table, so that every function is total; the limits are tested first.
+#![tactic(auto)]
+
 ghost use Rattle.std.specs.Prelude.{◌≡◌, cond};
 ghost use Rattle.sound_standing.specs.Standing.{stands_of};
 ghost use Rattle.sound_threads.specs.Threads.{base_fits, bases_in, idle_in, runs_fits, runs_in, runner_fits, runner_in, not_above, none_above_in, exists_in, objects_exist_in, object_fits, object_codes_in, beside_in, counted_in, place_fits, places_in};

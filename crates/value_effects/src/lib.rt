@@ -1,6 +1,8 @@
 // The scheduler: threads, mutexes, condition variables and their sets of queues, and what the calls do to them, by value: a row or a set is copied out,
 // changed and stored back, and the scheduler handed on.
 // An id is taken modulo the size of its table, so that every function is total; callers hand in ids that exist.
+#![tactic(auto)]
+
 ghost use Rattle.std.specs.Prelude.{◌≡◌};
 ghost use Rattle.value_effects.specs.Effects.{ceiling_for, highest_in, settle_model, own_model, recount_model, wait_for_model, wait_on_model, create_model, pass_model, acquire_model, release_model, wait_model, wake_model, signal_model, broadcast_model, run_first_model, choose_next_model, create_mutex_model, thread_row_model};
 

@@ -2,7 +2,6 @@
 -- Assumes nothing.
 use Prim.Native.Nat.{ℕ, suc, ◌+◌, ◌%◌, ◌<◌, ◌≤◌}
 use mathlib.Core.Path.{◌≡◌, refl, sym, ap, ◌∙◌}
-use mathlib.Core.Logic.{◌≢◌}
 use mathlib.Core.Bool.{Bool, true, false, not, ◌&&◌, false≢true}
 use mathlib.Core.List.{[], ◌∷◌, ◌++◌}
 use native.Mathlib.Omega.{arith}
@@ -18,7 +17,6 @@ use Rattle.calls.specs.Answers.{number_of}
 use Rattle.value_effects.specs.declared.Scheduler as scheduled
 use Rattle.value_effects.specs.declared.Signalled.{Signalled}
 use Rattle.value_effects.specs.Effects as scheduler
-use Rattle.wheel.specs.Hung.{left}
 use Rattle.wheel.specs.Promise.{wheel_of}
 use Rattle.rules.specs.State.{Rows, Scheduler, State, stopped_timer, mutex, timer, priority, with_rows, with_started, ready, stand, arrive}
 use Rattle.rules.specs.Next.{run_first}

@@ -24,7 +24,7 @@ use Rattle.wheel.specs.Hung as hung
 use Rattle.wheel.specs.Hung.{Good, left, with_left}
 use Rattle.wheel.specs.Promise.{wheel_of, started_in}
 use Rattle.wheel.proofs.Promise.{start_hangs, stop_hangs, left_hung}
-use Rattle.rules.specs.State.{stopped, Timer, Rows, State, stopped_timer, timer}
+use Rattle.rules.specs.State.{Timer, Rows, State, stopped_timer, timer}
 use Rattle.rules.specs.Effects.{state_of, length_kept, started_timer, goes, effect, given}
 use Rattle.rules.specs.Refusals.{tests, verdict_of}
 use Rattle.rules.specs.Sound.{timer_sound, timers_sound}

@@ -1,6 +1,8 @@
 // The engine: the scheduler, the timers with their wheel, and the tick count; boot, and the thirteen calls, by value: a call takes the engine, copies out
 // the part that it changes, stores it back, and hands the engine on with the answer.
 // An id is taken modulo the size of its table, so that every function is total; a call with an id that does not exist is refused first.
+#![tactic(auto)]
+
 ghost use Rattle.std.specs.Prelude.{◌≡◌, true};
 ghost use Rattle.calls.specs.declared.Decoded.TheVariants.{WrongForm};
 ghost use Rattle.calls.specs.declared.Verdict.TheVariants.{WrongRow};

@@ -17,7 +17,7 @@ use Rattle.value_effects.specs.declared.Mutex as scheduler
 use Rattle.value_effects.specs.Effects as models
 use Rattle.value_effects.specs.Effects.{ready_model, create_model, create_mutex_model}
 use Rattle.rules.specs.Queues.{QueueSet, empty_set}
-use Rattle.rules.specs.State.{running, ready, for_mutex, on_condition, Thread, Mutex, Rows, Scheduler, thread, mutex, tied, priority, with_rows, set_at}
+use Rattle.rules.specs.State.{ready, for_mutex, on_condition, Thread, Mutex, Rows, Scheduler, thread, mutex, tied, priority, with_rows, set_at}
 use Rattle.rules.specs.Page.{state_code, object_code}
 use Rattle.rules.specs.Effects.{thread_created, mutex_created, condition_created}
 use Rattle.rules_soundness.proofs.Rows.{priority_base}

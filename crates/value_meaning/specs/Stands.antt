@@ -10,7 +10,7 @@ use Rattle.value_tables.specs.declared.Threads.{Threads}
 use Rattle.value_effects.specs.declared.Mutex as scheduler
 use Rattle.value_effects.specs.declared.Scheduler as scheduled
 use Rattle.rules.specs.Queues.{QueueSet}
-use Rattle.rules.specs.State.{ready, for_mutex, on_condition, Rows, Sets, Scheduler, thread, mutex, tied, priority, set_at}
+use Rattle.rules.specs.State.{for_mutex, on_condition, Rows, Sets, Scheduler, thread, mutex, tied, priority, set_at}
 use Rattle.rules.specs.Page.{state_code, object_code}
 
 -- all sets of queues side by side: of the ready threads, of each mutex, of each condition variable

@@ -1,6 +1,8 @@
 // The parts of the kernel that threads stand in: a set of queues with the links, and the threads with their links and ready queues; and how a thread
 // becomes ready, waits, leaves a set and runs. A function takes these values, copies out what it changes, stores it back and hands them on.
 // An id of a thread is taken modulo 32, and one of 32 or more joins no queue, so that every function is total; callers hand in ids below 32.
+#![tactic(auto)]
+
 ghost use Rattle.std.specs.Prelude.{◌≡◌};
 ghost use Rattle.value_tables.specs.Tables.{join_model, join_front_model, depart_model, remove_from_model, head_model, stand_model, lift_model, arrive_model, arrive_in_front_model, run_first_model, choose_next_model, wait_model, leave_model_in, remove_model_in};
 

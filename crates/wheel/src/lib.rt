@@ -1,6 +1,8 @@
 // The timer wheel: at most 32 timers on 64 spokes. A spoke is a set of timers, a bit for each id, so that a wheel is determined by its
 // position and by each timer's ticks left, and timers come due in order of id. A wheel is one array of words, which may be lent and changed in place;
 // specs/Inside.antt says where each table stands in it.
+#![tactic(auto)]
+
 ghost use Rattle.std.specs.Prelude.{◌≡◌, ◌↔◌, true, get_or};
 ghost use Rattle.wheel.specs.Hung.{Hung, Good, empty, started, stopped, left, due};
 ghost use Rattle.wheel.specs.Inside.{bit_of};

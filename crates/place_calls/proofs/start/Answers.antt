@@ -1,0 +1,28 @@
+-- `start` meets its contract, by `refused` and `accepted`. Assumes nothing.
+use mathlib.Core.Bool.{true}
+use mathlib.Core.Path.{ap, ◌∙◌}
+use Rattle.value_engine.specs.Engines.{with_scheduler, start_model}
+use Rattle.place_calls.specs.declared.Counts.{Counts}
+use Rattle.place_calls.specs.declared.Counted.{Counted}
+use Rattle.place_calls.specs.Standing.{engine_in, stepped_in}
+use Rattle.place_calls.proofs.Judging.{refused, accepted}
+use Rattle.place_calls.proofs.start.Goals as goal
+
+pub returns-then-n-ne0 : goal.returns-then-n-ne0
+unfolding start_model
+returns-then-n-ne0 c =
+    λ timing.
+    let a = c.args in
+    let x = engine_in a.cells.now timing a.counts in
+    ap (λ (r : Counted). stepped_in a.cells.now timing r.counts r.answer) c.with_answer.ensures
+    ∙ refused x 255 _ _ _ c.number-n.ensures c.start_verdict-verdict.ensures _ _ c.refuse-answer.ensures c.if-n-ne0.true
+
+pub returns : goal.returns
+unfolding start_model
+returns c =
+    λ timing.
+    let a = c.args in
+    let x = engine_in a.cells.now timing a.counts in
+    let n : Counts = record { started = true; threads = a.counts.threads; mutexes = a.counts.mutexes; conditions = a.counts.conditions; timercount = a.counts.timercount } in
+    ap (λ (r : Counted). stepped_in c.finish-answer.new.cells timing r.counts r.answer) c.with_answer-2.ensures
+    ∙ accepted x 255 _ _ _ c.number-n.ensures c.start_verdict-verdict.ensures _ _ _ (c.finish-answer.ensures timing) (ap (with_scheduler (engine_in c.run_first.new.cells timing n)) c.run_first.ensures) c.if-n-ne0.false

@@ -1,0 +1,12 @@
+-- `links_in` fills the table. The invariant: the rows below t are made. The measure is what is left. Assumes nothing.
+use Prim.Native.Nat.{◌-◌, ◌≤◌}
+use mathlib.Core.Path.{◌≡◌}
+use Rattle.laws.specs.Filling.{filled}
+use Rattle.place_tables.specs.Cells.{link_in}
+use Rattle.place_packing.proofs.links_in.Given as goal
+
+abbrev pub invariant-loop-t : goal.invariant-loop-t
+invariant-loop-t l = (l.t ≤ 32) × (l.next ≡ filled 32 (link_in l.cells) 0 l.t)
+
+abbrev pub decreases-loop-t : goal.decreases-loop-t
+decreases-loop-t l = 32 - l.t

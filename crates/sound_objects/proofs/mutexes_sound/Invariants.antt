@@ -1,0 +1,10 @@
+-- `mutexes_sound` meets its contract. The invariant: the mutexes left decide as all do. The measure is what is left. Assumes nothing.
+use mathlib.Core.Path.{◌≡◌}
+use Rattle.sound_objects.specs.Objects.{mutexes_in}
+use Rattle.sound_objects.proofs.mutexes_sound.Given as goal
+
+abbrev pub invariant-loop-m : goal.invariant-loop-m
+invariant-loop-m l = mutexes_in l.mutexrows l.m l.threadrows l.threads l.priorities ≡ mutexes_in l.mutexrows l.mutexes l.threadrows l.threads l.priorities
+
+abbrev pub decreases-loop-m : goal.decreases-loop-m
+decreases-loop-m l = l.m
