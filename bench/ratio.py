@@ -12,13 +12,13 @@ plain C. Then rows a second of the run program against one of plain C on files
 of the mixes, reading and writing included. Last one line for each budget: the
 figure, the budget, and whether it is met, which is no test.
 
-All are x86-64 programs. Where these run under the kit's emulator, the first
+All are x86-64 programs. Where these run under an emulator, the first
 three tables have a second half: the same programs for this machine's own
 processor, with the library's module as bench/native compiles it. The budgets
 are about the processor.
 
-LIBRARY is the static library of `run_tally`, and the run program is
-target/bin/run; `./tehuamozo bench` proves and builds both. Each mix is
+LIBRARY is the static library of `run_tally_c`, and the run program is
+crates/run/out/run; `./tehuamozo bench` proves and builds both. Each mix is
 measured ROUNDS times on each side, in turn, and the best of each side counts;
 5 unless given. On a terminal it is said what is being measured.
 """
@@ -37,11 +37,11 @@ from bench.measuring import (
     tell,
 )
 from compare.held import TOP, natural, parser_of
-from words.built import locked
+from words.built import locked, program_of
 from words.kit import is_emulated, loaded, own_folder
 from words.streams import Trouble
 
-CRATE = "run_tally"
+CRATE = "run_tally_c"
 MIXES = ("rotate", "timers", "acquire", "pingpong", "broadcast", "timeout")
 KERNELS = ("empty", "few", "full")
 GROWN = (("few", "full"), ("rotate", "rotate-full"))
@@ -242,8 +242,8 @@ def growth(bench: Bench) -> List[Budget]:
 
 def print_files(bench: Bench, plain: Path) -> None:
     """The run program against one of plain C, on files."""
-    proved = TOP / "target" / "bin" / "run"
-    commands = {C_RUN: loaded(str(plain)), PROVED_RUN: loaded(str(proved))}
+    proved = str(program_of("run").file)
+    commands = {C_RUN: loaded(str(plain)), PROVED_RUN: loaded(proved)}
     for head in FILES.heads(bench.places[:1]):
         say(head)
     for name in MIXES:

@@ -2,7 +2,7 @@
 
     python3 -m compare.examples PROGRAM
 
-PROGRAM is the linked run program, target/bin/run. For each folder of
+PROGRAM is the linked run program, crates/run/out/run. For each folder of
 examples/: the rows of calls.txt are those of calls.rows, what calls.txt
 expects is met by expected.txt, the second program writes expected.txt, and so
 does PROGRAM; from start.record where there is one. The last line is

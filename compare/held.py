@@ -2,9 +2,9 @@
 and the count.
 
 Imported by the programs of this folder and by the benchmark's; it is no
-program. A program under test for x86-64 runs under the kit's emulator
-elsewhere, as `rt` runs it. The second program is the one in reference/. All
-of them run at the top of the repository.
+program. A program under test for x86-64 runs under an emulator elsewhere. The
+second program is the one in reference/. All of them run at the top of the
+repository.
 """
 
 from __future__ import annotations
@@ -53,7 +53,7 @@ def is_for_x86_64(program: Path) -> bool:
 
 
 def command_of(program: Path) -> List[str]:
-    """What runs the program: itself, or the kit's emulator and loader."""
+    """What runs the program: itself, or an emulator and the kit's loader."""
     if is_for_x86_64(program):
         return kit.command_of(str(program))
     return [str(program)]

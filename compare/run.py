@@ -3,7 +3,7 @@
     python3 -m compare.run PROGRAM [COUNT [SEED]]
 
 2,000 files and seed 1 unless given. PROGRAM is the linked run program,
-target/bin/run, called as PROGRAM CALLS START END. The second program makes
+crates/run/out/run, called as PROGRAM CALLS START END. The second program makes
 COUNT call files, for a share of them with a start: a record, sound or damaged;
 the others begin at boot. Both programs run on each, and their texts and their
 last records are compared byte by byte; where the start is refused, neither may

@@ -2,8 +2,9 @@
 
 They work on a copy of the tree, with what is built in it. The prover there is
 a stand-in, which counts how often it is started and puts the proved program
-in its place, so that what is tried is the door and not the prover; one trial
-has the real one. Imported by door.py of this folder; it is no program.
+in its place, so that what is tried is the door and not the prover; the real
+one is in trials_small.py. Imported by door.py of this folder; it is no
+program.
 """
 
 from __future__ import annotations
@@ -25,39 +26,53 @@ from compare.trying import (
     BOOT, RUN, RUN_TEXT, SECONDS, Done, Terminal, Trial, comes_true,
     door, hear_signals, not_done, one_line, put,
 )
-from words.kit import kit_folder, machines_of
+from words.kit import kit_folder
 
 # A prover that takes a while, so that two words meet. Like the real one it
-# leaves a program or library that it thinks it built as it is.
+# works in a crate's folder, leaves a program that it thinks it built as it
+# is, and ends as a program does that it runs, here with 3.
 STAND_IN = """\
 #!/bin/sh
 echo started >>"{count}"
 if [ -e "{busy}" ]; then echo two at once >>"{count}"; fi
 : >"{busy}"
 sleep 1
-mkdir -p target/bin target/stamp target/staticlib
-file=target/bin/$2 mark=target/stamp/$2 library=target/staticlib/lib$2.a
+crate=${{PWD##*/}} status=0
+mkdir -p out
 case $1 in
-check)
-    [ -e "$file" ] && [ -e "$mark" ] || cp "{kept}/$2" "$file"
+run)
+    file=out/$crate mark=out/$crate.stamp status=3
+    [ -e "$file" ] && [ -e "$mark" ] || cp "{kept}/$crate/out/$crate" "$file"
     : >"$mark"
     ;;
-staticlib) [ -e "$library" ] || echo proved >"$library" ;;
+lib) echo proved >"out/lib$crate.a" ;;
 esac
 rm "{busy}"
-echo "rt: $2 proved (1 s)"
+echo "crate $crate: modules loaded=0 checked=1"
+exit "$status"
 """
-REFUSES = "#!/bin/sh\necho 'rt: run NOT PROVED'\nexit 1\n"
+# One that refuses, beside what it says of that which is well.
+REFUSES = """\
+#!/bin/sh
+echo "fn run::one: proved"
+echo "crate run: modules loaded=0 checked=1"
+echo "logic=not-proved functions=2"
+exit 1
+"""
 # One that says how far it is, and does not come to its end.
 ENDLESS = """\
 #!/bin/sh
-case $1 in check | ci) ;; *) exit ;; esac
+case $1 in run | ci) ;; *) exit ;; esac
 echo started >>"{count}"
-echo "rt: laws proved (1 s)"
+echo "crate laws: modules loaded=0 checked=1"
 sleep {seconds} &
 echo $! >"{child}"
 wait
 """
+# What has the stand-in make a program, at the top as the gate's command is.
+MAKES = "(cd crates/run && rt run || [ $? -eq 3 ])"
+# What is built in a tree, which its copies have not.
+BUILT = shutil.ignore_patterns("out")
 NOT_PROVED = b"#!/bin/sh\necho not the proved one\n"
 NOBODY = 65_534
 
@@ -70,13 +85,11 @@ class Copy:
         self.top, self.room = room / "tree", room
         self.count = room / "count"
         for part in ("words", "reference", "crates"):
-            shutil.copytree(TOP / part, self.top / part)
+            shutil.copytree(TOP / part, self.top / part, ignore=BUILT)
         for part in ("tehuamozo", "crates.txt"):
             shutil.copy2(TOP / part, self.top / part)
-        (self.top / "target" / "bin").mkdir(parents=True)
         self.put_prover(STAND_IN.format(
-            count=self.count, busy=room / "busy",
-            kept=TOP / "target" / "bin",
+            count=self.count, busy=room / "busy", kept=TOP / "crates",
         ))
         self.calls = put(room, "calls", RUN)
 
@@ -87,17 +100,16 @@ class Copy:
         place.write_text(text)
         place.chmod(0o755)
         (self.room / "kit" / "KIT-ID").write_text("a stand-in\n")
-        # Off x86-64 the kit's emulator runs the program.
-        machines, kit = machines_of(self.room / "kit"), kit_folder()
+        # Off x86-64 the kit's loader starts the program.
+        tools, kit = self.room / "kit" / "toolchain", kit_folder()
         assert kit is not None
-        if not machines.is_symlink():
-            machines.symlink_to(machines_of(kit))
+        if not tools.is_symlink():
+            tools.symlink_to(kit / "toolchain")
 
     def environment(self) -> Dict[str, str]:
         """With the stand-in before the prover."""
         path = f"{self.room / 'kit' / 'bin'}:{os.environ['PATH']}"
-        clean = {k: v for k, v in os.environ.items() if k != "RATTLE_HOME"}
-        return dict(clean, PATH=path)
+        return dict(os.environ, PATH=path)
 
     def word(self, *words: str) -> Done:
         """One word of the copy."""
@@ -126,7 +138,11 @@ class Copy:
 
     def program(self, name: str = "run") -> Path:
         """A program of the copy."""
-        return self.top / "target" / "bin" / name
+        return self.top / "crates" / name / "out" / name
+
+    def said_to_gate(self) -> bytes:
+        """What is kept of the words of the gate's last command."""
+        return (self.top / "target" / "door" / "gate.log").read_bytes()
 
     def python(self, *words: str) -> Done:
         """A Python program of the copy."""
@@ -221,7 +237,8 @@ def never_another_library(copy: Copy) -> bool:
 
 def without_stamp(copy: Copy) -> bool:
     """A program without a stamp is not run: it is built again."""
-    put(copy.room, "tree/target/bin/run", NOT_PROVED)
+    copy.program().parent.mkdir()
+    copy.program().write_bytes(NOT_PROVED)
     copy.program().chmod(0o755)
     return copy.runs() and len(copy.started()) == 1
 
@@ -235,8 +252,8 @@ def other_sources(copy: Copy) -> bool:
     changed = [
         "crates/run/src/main.rt", "crates/rules/specs/Lib.antt",
         "crates/queue/proofs/Lib.antt", "crates/run/args",
-        "crates/run/stdout", "crates/run/stdin", "crates/run/data/more",
-        "crates.txt", "target/door/run",
+        "crates/run/stdout", "crates/run/stdin", "crates/run/status",
+        "crates/run/data/more", "crates.txt", "target/door/run",
     ]
     for times, name in enumerate(changed, 2):
         copy.edit(name, "run_pieces: \n" if name == "crates.txt" else "\n")
@@ -259,18 +276,19 @@ def only_what_counts(copy: Copy) -> bool:
 
 def gate_stamps(copy: Copy) -> bool:
     """What the gate proves and builds is stamped, and not built again."""
-    stamp = ("-m", "words.stamp", "--programs", "run", "--")
-    done = copy.python(*stamp, "rt", "check", "run")
-    return done.status == 0 and copy.runs() and len(copy.started()) == 1
+    stamp = ("-m", "words.stamp", "--programs", "run", "--", "sh", "-c")
+    done = copy.python(*stamp, MAKES)
+    said = b"crate run: modules loaded=0 checked=1\n"
+    told = done == Done(0, said, b"") and said in copy.said_to_gate()
+    return told and copy.runs() and len(copy.started()) == 1
 
 
 def gate_stamps_what_it_proved(copy: Copy) -> bool:
     """Sources that change while the gate proves are not stamped, nor is what
     it refuses; the exit status tells."""
-    edit = "rt check run && echo >>crates/run/src/main.rt"
     stamp = ("-m", "words.stamp", "--programs", "run", "--", "sh", "-c")
-    changed = copy.python(*stamp, edit)
-    refused = copy.python(*stamp, "rt check run; exit 1")
+    changed = copy.python(*stamp, f"{MAKES} && echo >>crates/run/src/main.rt")
+    refused = copy.python(*stamp, f"{MAKES}; exit 1")
     no_stamp = not (copy.top / "target" / "door" / "run").exists()
     return (
         changed.status == 2 and b"changed" in changed.said
@@ -385,9 +403,9 @@ def interrupted_while_proving(copy: Copy) -> bool:
     the prover with all that it started, and lets the lock go."""
     child, screen = endless(copy), Terminal()
     word = begin_here(copy, "run", copy.calls, stderr=screen.line)
-    shown = screen.interrupt(word, b"laws proved")
+    shown = screen.interrupt(word, b"laws checked")
     return (
-        b"tehuamozo: laws proved" in shown
+        b"tehuamozo: laws checked" in shown
         and is_gone(int(child.read_text())) and can_lock(copy.top)
     )
 
@@ -445,8 +463,8 @@ def refused_sources(copy: Copy) -> bool:
     copy.edit("crates/run/src/main.rt", "x\n")
     copy.put_prover(REFUSES)
     done = copy.word("run", copy.calls)
-    said = b"run is not proved" in done.said and b"NOT PROVED" in done.said
-    return done.status == 2 and done.text == b"" and said
+    said = b"tehuamozo: run is not proved:\nlogic=not-proved functions=2\n"
+    return done == Done(2, b"", said)
 
 
 def through_link(copy: Copy) -> bool:
@@ -556,28 +574,6 @@ def waits_for_lock(copy: Copy) -> bool:
     finally:
         os.close(lock)
 
-
-def real_prover(room: Path) -> bool:
-    """In this tree itself, with the real prover: two at once, and the proofs
-    stay as they were."""
-    stamps = TOP / "target" / "stamp"
-    calls = put(room, "calls", RUN)
-    (TOP / "target" / "door" / "run").unlink(missing_ok=True)
-    before = {path.name: path.read_bytes() for path in stamps.iterdir()}
-    words = [str(TOP / "tehuamozo"), "run", calls]
-    at_work = [
-        subprocess.Popen(words, cwd=room, stdout=subprocess.PIPE)
-        for _ in range(2)
-    ]
-    texts = [word.communicate(timeout=SECONDS)[0] for word in at_work]
-    after = {path.name: path.read_bytes() for path in stamps.iterdir()}
-    return texts == [RUN_TEXT] * 2 and before == after
-
-
-# These change what is built in the tree that the other trials use.
-ALONE: List[Trial] = [
-    ("two at once with the real prover", real_prover),
-]
 
 TRIALS: List[Trial] = [
     ("two runs at once", in_copy(two_runs)),

@@ -96,13 +96,13 @@ def refused_start_alone(room: Path) -> bool:
 
 
 def full_output(room: Path) -> bool:
-    """Standard output that cannot be written is 2, for every word."""
+    """Standard output that cannot be written is 2, for every word; bench is
+    in trials_small.py."""
     calls, record = put(room, "calls", RUN), put(room, "record", BOOT)
     text = put(room, "text", b"tick\n")
     many = [
         ("run", calls), ("explain", calls), ("show", calls), ("rows", text),
         ("record", record), ("help",), ("help", "calls"), ("axioms",),
-        ("bench",),
     ]
     wanted = "standard output", "No space left"
     done = [into(room, "/dev/full", *words) for words in many]

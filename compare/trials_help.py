@@ -14,7 +14,7 @@ import subprocess
 import sys
 import time
 from pathlib import Path
-from typing import Callable, List, Tuple
+from typing import Callable, Dict, List, Tuple
 
 from compare.held import TOP
 from compare.trying import (
@@ -39,24 +39,23 @@ STEPS = (
     ("whole words", "need shellcheck shellcheck"),
     ("whole words", "need mypy mypy"),
     ("whole words", "need pycodestyle pycodestyle"),
-    ("whole proofs", "rt fmt --check"),
     ("whole words", "shellcheck tehuamozo .ci/run bench/build bench/native"),
     ("whole words", "mypy --strict --cache-dir $room/mypy words compare "
      "reference bench docs examples/wrap/make_start.py"),
     ("whole words", "pycodestyle words compare reference bench docs "
      "examples"),
-    ("whole", "stamped rt ci"),
-    ("proofs", "stamped sh -c 'rm -rf target && exec rt check'"),
+    ("whole proofs", "stamped rt ci"),
     ("edits", "locked rt must-fail"),
     ("comparisons words", "python3 -B -m words.build run trace records "
      "wheel_work"),
     ("whole edits", "python3 -m docs.test_first_errors"),
     ("whole edits", "python3 -m docs.first_errors"),
     ("whole comparisons", "python3 -m compare.test_counting"),
-    ("whole comparisons", "python3 -m compare.run target/bin/run"),
+    ("whole comparisons", "python3 -m compare.run crates/run/out/run"),
     ("whole comparisons", "python3 -m reference.test_reference"),
-    ("whole comparisons", "python3 -m compare.records target/bin/records"),
-    ("whole comparisons", "python3 -m compare.examples target/bin/run"),
+    ("whole comparisons", "python3 -m compare.records "
+     "crates/records/out/records"),
+    ("whole comparisons", "python3 -m compare.examples crates/run/out/run"),
     ("whole words", "python3 -m words.test_door"),
     ("whole words", "python3 -m words.test_texts"),
     ("whole words", "python3 -m words.test_timeline"),
@@ -70,6 +69,10 @@ STEPS = (
     ("whole comparisons", "python3 -m compare.plain"),
     ("whole comparisons", "python3 -m bench.mixes"),
 )
+# Lines that `rt ci` ends in.
+OK = "rt: ok; handles allowed: none; must-fail edits: 9 refused"
+REST = "every proof and must-fail edit was done in this run"
+ALL_GOOD = "1 passed, 0 failed"
 # All that the steps of the gate start.
 STARTED = ("rt", "python3", "cc", "shellcheck", "mypy", "pycodestyle")
 # Document 01's calls with the fields it names.
@@ -369,14 +372,6 @@ def readme_has_words(room: Path) -> bool:
     return len(uses) == len(WORDS) and missing == []
 
 
-def bench_tells(room: Path) -> bool:
-    """bench says what it measures, and an interrupt ends it in one line."""
-    screen = Terminal()
-    word = begin(room, "bench", stdout=subprocess.PIPE, stderr=screen.line)
-    shown = screen.interrupt(word, b"measuring")
-    return re.search(rb"tehuamozo: measuring \w+", shown) is not None
-
-
 def own_modules(room: Path) -> bool:
     """Python files in the user's folder are none of the door's, whatever
     their names."""
@@ -430,9 +425,9 @@ def steps_of(room: Path, *part: str) -> List[str]:
 
 
 def lists_steps(room: Path) -> bool:
-    """The parts of the gate are together the whole, each in its order: where
-    the whole has one step that proves, tries the edits and builds, a part has
-    its share of that."""
+    """The parts of the gate are together the whole, each in its order: what
+    the whole has done in one step, that proves, tries the edits and builds, a
+    part that is not to prove does by a step of its own."""
     whole = steps_of(room)
     parts = [steps_of(room, part) for part in PARTS]
     of_parts = {name for part in parts for name in part}
@@ -440,20 +435,18 @@ def lists_steps(room: Path) -> bool:
         [name for name in whole if name in part]
         == [name for name in part if name in whole] for part in parts
     )
-    return all(parts) and in_order and (
-        set(whole) - of_parts == {"proofs, must-fail edits and programs"}
-    ) and of_parts - set(whole) == {
-        "proofs from nothing, and programs", "must-fail edits",
-        "the programs are built",
-    }
+    return all(parts) and in_order and set(whole) <= of_parts and (
+        of_parts - set(whole) == {"must-fail edits", "the programs are built"}
+    )
 
 
 def holds_steps(room: Path) -> bool:
     """The gate has these steps, each in these parts and by this command."""
     script = (TOP / "tehuamozo").read_text("utf-8")
+    kinds = "single|counted|gated|shown"
     lines = re.findall(
-        r'^    step "?([\w$ ]+?)"? (?:single|counted|shown) "[^"]+" (.*)$',
-        script, re.MULTILINE
+        rf'^    step "?([\w$ ]+?)"? (?:{kinds}) "[^"]+" (.*)$', script,
+        re.MULTILINE
     )
     found = tuple(
         (parts.replace("$every", EVERY), command.replace('"', ""))
@@ -462,23 +455,45 @@ def holds_steps(room: Path) -> bool:
     return found == STEPS and script.count("\n    step ") == len(STEPS)
 
 
-def does_steps(count: bytes) -> Callable[[Path], bool]:
+def stand_ins(room: Path, *lines: str, status: int) -> Dict[str, str]:
+    """Put stand-ins, which print lines and end with a status, in place of all
+    that the steps start; the environment for the gate."""
+    for name in STARTED:
+        says = [f"echo \"{line}\"" for line in lines]
+        text = "\n".join(["#!/bin/sh", *says, f"exit {status}", ""])
+        put(room, name, text.encode())
+        (room / name).chmod(0o755)
+    return dict(os.environ, PATH=f"{room}:{os.environ['PATH']}")
+
+
+def does_steps(good: bool) -> Callable[[Path], bool]:
     """A part, or the whole, does the steps that are listed, each once, and
-    ends in their count: with stand-ins, which print a count and end by it,
-    for all that the steps start."""
+    ends in their count: with stand-ins, which print a count and end by it."""
 
     def tried(room: Path) -> bool:
-        good = count.startswith(b"1")
-        for name in STARTED:
-            text = b"#!/bin/sh\necho '%s'\nexit %d\n" % (count, not good)
-            put(room, name, text)
-            (room / name).chmod(0o755)
-        path = f"{room}:{os.environ['PATH']}"
-        environment = dict(os.environ, PATH=path)
+        lines = [OK, ALL_GOOD] if good else ["0 passed, 1 failed"]
+        environment = stand_ins(room, *lines, status=0 if good else 1)
         return all(
             did_steps(door(room, "test", *part, environment=environment),
                       steps_of(room, *part), good)
             for part in [(), *((each,) for each in PARTS)]
+        )
+
+    return tried
+
+
+def holds_ok_line(*lines: str) -> Callable[[Path], bool]:
+    """Where all steps count well, and the line 'rt: ok' is not there or has a
+    bad edit, the gate fails by one, and says so."""
+
+    def tried(room: Path) -> bool:
+        environment = stand_ins(room, *lines, status=0)
+        done = door(room, "test", environment=environment)
+        count = f"{len(steps_of(room))} passed, 1 failed\n".encode()
+        said = b"a must-fail edit is bad" if lines[1:] else b"no line 'rt: ok'"
+        return (
+            done.status == 1 and done.text.endswith(count)
+            and done.text.count(said) == 1
         )
 
     return tried
@@ -529,8 +544,10 @@ TRIALS: List[Trial] = [
     ("programs that are used wrongly", programs_refuse),
     ("the steps of the gate", lists_steps),
     ("the commands of the gate", holds_steps),
-    ("a part of the gate does its steps", does_steps(b"1 passed, 0 failed")),
-    ("a part of the gate that fails", does_steps(b"0 passed, 1 failed")),
+    ("a part of the gate does its steps", does_steps(True)),
+    ("a part of the gate that fails", does_steps(False)),
+    ("a gate without the line 'rt: ok'", holds_ok_line(ALL_GOOD)),
+    ("a gate with bad edits", holds_ok_line(f"{OK}, 2 bad; {REST}", ALL_GOOD)),
     ("a timeline without its file", refuses("-o", "timeline", "calls")),
     ("a timeline of other ticks", refuses(
         "FIRST-LAST", "timeline", "calls", "--ticks", "4", "-o", "a.svg")),
@@ -549,7 +566,6 @@ TRIALS: List[Trial] = [
     ("a long text", tells(b"% of the text read", "run", "text")),
     ("many lines shown", tells(b"% of the lines", "show", "rows")),
     ("many lines explained", tells(b"% of the lines", "explain", "rows")),
-    ("bench", bench_tells),
     ("the README's words", readme_has_words),
     ("axioms", prints_axioms),
     ("the definitions to believe, counted", counts_definitions),

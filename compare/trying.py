@@ -64,11 +64,13 @@ def door(
     return Done(done.returncode, done.stdout, done.stderr)
 
 
-def into(room: Path, target: str, *words: str) -> Done:
+def into(
+    room: Path, target: str, *words: str, door_file: Path = DOOR
+) -> Done:
     """One word whose standard output goes to a file or device."""
     with open(room / target, "ab") as stream:
         done = subprocess.run(
-            [str(DOOR), *words], cwd=room, stdin=subprocess.DEVNULL,
+            [str(door_file), *words], cwd=room, stdin=subprocess.DEVNULL,
             stdout=stream, stderr=subprocess.PIPE, check=False,
             timeout=SECONDS,
         )

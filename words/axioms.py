@@ -2,122 +2,84 @@
 
     axiom_lines()    what there is to say of each program, in lines
 
-The prover's report, target/log/NAME.say, has their number and the first of
-their names; all of them are the names that the object file leaves open, less
-those that the compiler adds. Where the two numbers differ, that is Trouble.
-Imported by the words; it is no program.
+The prover's report has their number and the first of their names; all of them
+are the names that the object file leaves open, less those that the compiler
+adds. Where the two numbers differ, that is Trouble. Where `rt ci` took the
+proof from an earlier run there is neither a report nor an object file: then
+the names are those of the kit's C functions that stand in the program, which
+may be more, since they are linked with others that nothing calls. Imported by
+the words; it is no program.
 """
 
 from __future__ import annotations
 
 import re
-import struct
 from pathlib import Path
-from typing import Dict, Iterator, List, NamedTuple
+from typing import Dict, Iterable, Iterator, List
 
-from words import built
-from words.kit import kit_folder
+from words import built, elf, verdicts
+from words.kit import own_folder
 from words.streams import Trouble
 
-# The compiler calls these of itself, for copies and for zeros.
-COMPILERS = frozenset(("memcpy", "memmove", "memset"))
+# The compiler calls these of itself: for copies and for zeros, and where a
+# program begins.
+COMPILERS = frozenset((
+    "memcpy", "memmove", "memset", "__sysv_signal", "__write",
+    "__x86_get_cpuid_feature_leaf",
+))
 # Where the kit declares what it assumes, and how a name there is written.
 DECLARED: Dict[str, str] = {
-    "libs/libc/src/lib.rt": "libc::", "libs/os/src/c.rt": "os::c::",
+    "libc/src/lib.rt": "libc::", "libc/src/heap.rt": "libc::heap::",
+    "libc/src/math.rt": "libc::math::", "libc/src/net.rt": "libc::net::",
+    "os/src/c.rt": "os::c::",
 }
-DECLARATION = re.compile(r"^\s*pub fn (\w+)\(", re.MULTILINE)
-VERDICT = re.compile(r"^logic=.*$", re.MULTILINE)
+BLOCK = re.compile(r'^unsafe extern "C" \{$(.*?)^\}$', re.M | re.S)
+DECLARATION = re.compile(r"^    pub (?:safe |unsafe )?fn (\w+)", re.M)
 COUNT = re.compile(r"\baxioms=(\d+)")
-
-# An ELF file of 64 bits: where its header says where the sections are, their
-# size and number; of a section its kind, place, length and link; of a symbol
-# its name and section.
-SECTIONS = struct.Struct("<40xQ10xHH2x")
-SECTION = struct.Struct("<4xI16xQQI20x")
-SYMBOL = struct.Struct("<IxxH16x")
-SYMBOL_TABLE, OPEN = 2, 0
-
-
-class Section(NamedTuple):
-    """A section of an object file; a table of symbols has its names' link."""
-
-    kind: int
-    place: int
-    length: int
-    link: int
-
-
-def sections_of(data: bytes) -> List[Section]:
-    """The sections of an object file."""
-    first, size, count = SECTIONS.unpack_from(data)
-    return [
-        Section(*SECTION.unpack_from(data, first + index * size))
-        for index in range(count)
-    ]
-
-
-def text_at(data: bytes, place: int) -> str:
-    """The text at a place, which ends with a zero byte."""
-    return data[place:data.index(b"\0", place)].decode("ascii")
-
-
-def open_names(data: bytes) -> Iterator[str]:
-    """The names that an object file leaves open."""
-    sections = sections_of(data)
-    for table in sections:
-        if table.kind != SYMBOL_TABLE:
-            continue
-        names, end = sections[table.link].place, table.place + table.length
-        for symbol in range(table.place, end, SYMBOL.size):
-            name, section = SYMBOL.unpack_from(data, symbol)
-            if section == OPEN and name:
-                yield text_at(data, names + name)
+NO_WORDS = "its proof was kept, and what the prover said of it is not here"
 
 
 def declared() -> Dict[str, str]:
     """What the kit declares of the system, with its whole name."""
-    kit = kit_folder()
-    if kit is None:
-        raise Trouble("rt is not found, and its libraries declare the axioms")
+    folder = own_folder() / "rattle"
     return {
         name: prefix + name
         for file, prefix in DECLARED.items()
-        for name in DECLARATION.findall((kit / file).read_text("utf-8"))
+        for block in BLOCK.findall((folder / file).read_text("utf-8"))
+        for name in DECLARATION.findall(block)
     }
 
 
-def axioms_of(name: str) -> List[str]:
-    """The axioms of a program that is built, in order."""
-    data = (built.TARGET / "obj" / f"{name}.o").read_bytes()
+def whole(names: Iterable[str]) -> List[str]:
+    """Names with what declares them, in order."""
     known = declared()
-    return sorted(
-        known.get(each, each) for each in open_names(data)
-        if each not in COMPILERS
-    )
-
-
-def verdict_of(name: str) -> str:
-    """The prover's verdict on a program that is built."""
-    report = (built.TARGET / "log" / f"{name}.say").read_text("utf-8")
-    found = VERDICT.search(report)
-    return found.group() if found else ""
+    return sorted(known.get(each, each) for each in names)
 
 
 def lines_of(name: str) -> Iterator[str]:
     """What there is to say of one program."""
-    built.program(name).close()
-    names, verdict = axioms_of(name), verdict_of(name)
-    counted = COUNT.search(verdict)
+    with built.program(name) as program:
+        program.seek(0)
+        data = program.read()
+    verdict = built.verdict_of(name, data)
+    if verdict is None:
+        names = whole(elf.all_names(data) & declared().keys())
+        yield f"{name}: {len(names)} axioms at most"
+        yield from (f"  {each}" for each in names)
+        yield f"  {NO_WORDS}"
+        return
+    names = whole(set(verdict.names) - COMPILERS)
+    counted = COUNT.search(verdict.line)
     if int(counted.group(1) if counted else 0) != len(names):
-        raise Trouble(f"{name}: {len(names)} axioms are met: {verdict}")
+        raise Trouble(f"{name}: {len(names)} axioms are met: {verdict.line}")
     yield f"{name}: {len(names)} axioms"
     yield from (f"  {each}" for each in names)
-    yield f"  {verdict}"
+    yield f"  {verdict.line}"
 
 
 def programs() -> List[str]:
     """The crates that are programs."""
-    found: List[Path] = sorted((built.TOP / "crates").glob("*/src/main.rt"))
+    found: List[Path] = sorted(built.CRATES.glob("*/src/main.rt"))
     return [path.parent.parent.name for path in found]
 
 

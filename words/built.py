@@ -1,15 +1,19 @@
 """Proves and builds the programs, once, and knows whether that was done.
 
-    program(name)      the proved program, open for reading
-    library(name)      the path of the proved static library
+    program(name)              the proved program, open for reading
+    library(name)              the path of the proved static library
+    verdict_of(name, data)     what the prover said of a program, if known
 
-A stamp, target/door/NAME, says from which sources, by which kit and for which
-machine a file was built, and what its bytes are. Where all that is still so
-the file is used as it is, and nothing is written: so a built tree serves
-readers who cannot write to it. Otherwise it is built again, under a lock on
-the repository's folder, since two provers at work in one folder disturb each
-other. The stamp guards against accidents, not against someone who writes to
-the tree; docs/TRUST.md says more. Imported by the words; it is no program.
+`rt` leaves a program in its crate's folder, crates/NAME/out/NAME. A static
+library is that of the crate NAME_c, and has the name that C links it by in
+target/staticlib. A stamp, target/door/NAME, says from which sources, by which
+kit and for which machine a file was built, and what its bytes are. Where all
+that is still so the file is used as it is, and nothing is written: so a built
+tree serves readers who cannot write to it. Otherwise it is built again, under
+a lock on the repository's folder, since two provers at work in one folder
+disturb each other. The stamp guards against accidents, not against someone
+who writes to the tree; docs/TRUST.md says more. Imported by the words; it is
+no program.
 """
 
 from __future__ import annotations
@@ -25,29 +29,44 @@ import signal
 import subprocess
 from pathlib import Path
 from typing import (
-    IO, Dict, Iterator, List, NamedTuple, Optional, Sequence,
+    IO, Dict, Iterator, List, NamedTuple, Optional, Sequence, Union,
 )
 
+from words import elf, verdicts
 from words.kit import kit_folder
-from words.streams import Trouble, complain
+from words.streams import BLOCK, Trouble, complain, put
 from words.telling import telling
+from words.verdicts import Verdict
 
 TOP = Path(__file__).resolve().parent.parent
-TARGET = TOP / "target"
+CRATES, TARGET = TOP / "crates", TOP / "target"
 # What `rt` takes from a crate's folder.
-PARTS = ("src", "specs", "proofs", "stdin", "stdout", "args", "data")
+PARTS = ("src", "specs", "proofs", "stdin", "stdout", "args", "status", "data")
 SECONDS_TO_END = 10.0
-PROVED = re.compile(rb"^rt: ([a-z_0-9]+ proved) \([0-9]+ s\)$", re.MULTILINE)
+CHECKED = re.compile(rb"^crate ([a-z_0-9]+): modules ", re.MULTILINE)
+# Lines of the prover that say nothing of what is wrong.
+ALL_WELL = re.compile(
+    r": proved(, .*)?$|^(statements|axioms|logic|library|crate|rt: chose) "
+)
+MOST_LINES = 60
 
 
 class Product(NamedTuple):
-    """What is built: of which crate, how, and where it then stands."""
+    """What is built: of which crate, by which command in its folder, where
+    that puts it, and where it then stands."""
 
     crate: str
     command: Sequence[str]
+    made: Path
     file: Path
-    # What keeps `rt` from building it again, and is removed first.
+    # What `rt` makes on the way, and last, once all is proved and made; for a
+    # program its own stamp, since `rt run` then ends as the program does.
     marks: Sequence[Path]
+    is_run: bool
+
+    def folder(self) -> Path:
+        """The folder of its crate."""
+        return CRATES / self.crate
 
     def stamp(self) -> Path:
         """Where its stamp stands."""
@@ -57,17 +76,37 @@ class Product(NamedTuple):
         """Where the prover's words go."""
         return TARGET / "door" / f"{self.crate}.log"
 
+    def verdict(self) -> Path:
+        """Where the prover's verdict is kept."""
+        return TARGET / "door" / f"{self.crate}.verdict"
+
+    def object(self) -> Path:
+        """Where `rt` leaves the object file of a program."""
+        return self.made.with_name(f"{self.crate}.o")
+
+    def is_made(self, status: int) -> bool:
+        """Whether the command, which ended so, has proved and made it."""
+        return self.marks[-1].is_file() and (self.is_run or status == 0)
+
 
 def program_of(name: str) -> Product:
     """A program."""
-    file, mark = TARGET / "bin" / name, TARGET / "stamp" / name
-    return Product(name, ("rt", "check", name), file, (file, mark))
+    out = CRATES / name / "out"
+    marks = (out / name, out / f"{name}.o", out / f"{name}.stamp")
+    return Product(name, ("rt", "run"), marks[0], marks[0], marks, True)
 
 
 def library_of(name: str) -> Product:
     """A static library."""
+    crate = f"{name}_c"
+    made = CRATES / crate / "out" / f"lib{crate}.a"
     file = TARGET / "staticlib" / f"lib{name}.a"
-    return Product(name, ("rt", "staticlib", name), file, (file,))
+    return Product(crate, ("rt", "lib"), made, file, (made,), False)
+
+
+def gate_log() -> Path:
+    """Where the words of the gate's last command stand."""
+    return TARGET / "door" / "gate.log"
 
 
 def listed_in(top: Path) -> Dict[str, List[str]]:
@@ -75,9 +114,10 @@ def listed_in(top: Path) -> Dict[str, List[str]]:
     those that it is listed with."""
     found: Dict[str, List[str]] = {}
     for line in (top / "crates.txt").read_text("utf-8").splitlines():
-        name, colon, rest = line.partition("#")[0].partition(":")
+        head, colon, rest = line.partition("#")[0].partition(":")
         if colon:
-            found[name.strip()] = rest.split()
+            # A static library has that word after its name.
+            found[head.split()[0]] = rest.split()
     return found
 
 
@@ -96,7 +136,7 @@ def reached(name: str, listed: Dict[str, List[str]]) -> List[str]:
 def files_of(crate: str) -> Iterator[Path]:
     """The files of a crate that `rt` takes, in order."""
     for part in PARTS:
-        place = TOP / "crates" / crate / part
+        place = CRATES / crate / part
         if place.is_file():
             yield place
         for folder, folders, names in os.walk(place):
@@ -184,13 +224,13 @@ def locked() -> Iterator[int]:
         os.close(lock)
 
 
-def last_proved(log: Path) -> str:
-    """The crate that was proved last, by the prover's words so far."""
+def last_checked(log: Path) -> str:
+    """The crate that was checked last, by the prover's words so far."""
     try:
-        found: List[bytes] = PROVED.findall(log.read_bytes())
+        found: List[bytes] = CHECKED.findall(log.read_bytes())
     except OSError:
         return ""
-    return found[-1].decode() if found else ""
+    return f"{found[-1].decode()} checked" if found else ""
 
 
 def end(process: subprocess.Popen[bytes]) -> None:
@@ -205,16 +245,15 @@ def end(process: subprocess.Popen[bytes]) -> None:
 
 
 def under_lock(
-    command: Sequence[str], lock: int, log: Optional[IO[bytes]] = None
+    command: Sequence[str], lock: int, folder: Path, log: Union[int, IO[bytes]]
 ) -> subprocess.Popen[bytes]:
-    """A command at work at the top of the repository. It keeps the lock if
-    this process is killed, and has a session of its own, so that it can be
-    ended with all that it starts."""
+    """A command at work in a folder, whose words go into a file or a pipe. It
+    keeps the lock if this process is killed, and has a session of its own, so
+    that it can be ended with all that it starts."""
     try:
         return subprocess.Popen(
-            command, cwd=TOP, stdin=subprocess.DEVNULL, stdout=log,
-            stderr=None if log is None else subprocess.STDOUT,
-            pass_fds=(lock,), start_new_session=True,
+            command, cwd=folder, stdin=subprocess.DEVNULL, stdout=log,
+            stderr=subprocess.STDOUT, pass_fds=(lock,), start_new_session=True,
         )
     except OSError as error:
         raise Trouble(f"{command[0]} cannot be started: {error}") from error
@@ -223,13 +262,25 @@ def under_lock(
 def prove(product: Product, lock: int) -> int:
     """Start the prover and wait for it; its exit status."""
     with product.log().open("wb") as log:
-        prover = under_lock(product.command, lock, log)
+        prover = under_lock(product.command, lock, product.folder(), log)
     try:
-        with telling(lambda: last_proved(product.log())):
+        with telling(lambda: last_checked(product.log())):
             return prover.wait()
     except BaseException:
         end(prover)
         raise
+
+
+def relay(process: subprocess.Popen[bytes], log: IO[bytes]) -> int:
+    """Hand on what a command says, to standard output and a file, and wait
+    for it; its exit status."""
+    assert process.stdout is not None
+    while True:
+        data = os.read(process.stdout.fileno(), BLOCK)
+        if not data:
+            return process.wait()
+        put(data)
+        log.write(data)
 
 
 def forget(product: Product) -> None:
@@ -246,17 +297,48 @@ def put_stamp(product: Product, stamp: str) -> None:
     beside.replace(product.stamp())
 
 
-def stamp_built(product: Product, before: str) -> IO[bytes]:
+def keep_verdict(product: Product, stamp: str, words: str) -> None:
+    """Keep what the prover said of a program, with the names that its object
+    file leaves open. Where it said nothing, only what is kept of the very
+    same file stays."""
+    line = verdicts.found(product.crate, words)
+    if line and product.object().is_file():
+        names = sorted(elf.open_names(product.object().read_bytes()))
+        verdicts.keep(product.verdict(), stamp, Verdict(line, names))
+    elif verdicts.kept(product.verdict(), stamp) is None:
+        with contextlib.suppress(FileNotFoundError):
+            product.verdict().unlink()
+
+
+def stamp_built(product: Product, before: str, words: str) -> IO[bytes]:
     """Stamp what was built from the sources there were before, if they are
-    still the same; the file, open."""
+    still the same, and keep what the prover said; the file, open."""
     if sources(product.crate) != before:
         raise Trouble(
             f"the sources of {product.crate} changed while they were proved"
         )
-    product.stamp().parent.mkdir(parents=True, exist_ok=True)
     file = product.file.open("rb")
-    put_stamp(product, stamped(before, kit() or "", file.read()))
+    stamp = stamped(before, kit() or "", file.read())
+    put_stamp(product, stamp)
+    if product.is_run:
+        keep_verdict(product, stamp, words)
     return file
+
+
+def complaints(words: str) -> str:
+    """What the prover says is wrong, without the lines on what is well."""
+    lines = [line for line in words.splitlines() if not ALL_WELL.search(line)]
+    return "\n".join(lines[-MOST_LINES:])
+
+
+def put_in_place(product: Product) -> None:
+    """Put what `rt` made where it stands, whole or not at all."""
+    if product.file == product.made:
+        return
+    product.file.parent.mkdir(parents=True, exist_ok=True)
+    beside = product.file.with_suffix(".new")
+    shutil.copyfile(product.made, beside)
+    beside.replace(product.file)
 
 
 def build(product: Product, lock: int) -> IO[bytes]:
@@ -269,26 +351,31 @@ def build(product: Product, lock: int) -> IO[bytes]:
     before = sources(product.crate)
     product.stamp().parent.mkdir(parents=True, exist_ok=True)
     forget(product)
-    if prove(product, lock) != 0:
-        words = product.log().read_text("utf-8", "replace").rstrip()
-        raise Trouble(f"{product.crate} is not proved:\n{words}")
-    return stamp_built(product, before)
+    status = prove(product, lock)
+    words = product.log().read_text("utf-8", "replace")
+    if not product.is_made(status):
+        raise Trouble(f"{product.crate} is not proved:\n{complaints(words)}")
+    put_in_place(product)
+    return stamp_built(product, before, words)
 
 
 def build_by(command: Sequence[str], names: Sequence[str]) -> int:
-    """Have a command prove and build programs, under the lock, and stamp
-    them where it ends well; its exit status."""
+    """Have a command at the top prove and build programs, under the lock, and
+    stamp them where it ends well; its exit status. Its words are kept."""
     with locked() as lock:
         before = {name: sources(name) for name in names}
-        process = under_lock(command, lock)
-        try:
-            status = process.wait()
-        except BaseException:
-            end(process)
-            raise
+        gate_log().parent.mkdir(parents=True, exist_ok=True)
+        with gate_log().open("wb") as log:
+            process = under_lock(command, lock, TOP, subprocess.PIPE)
+            try:
+                status = relay(process, log)
+            except BaseException:
+                end(process)
+                raise
+        words = gate_log().read_text("utf-8", "replace")
         try:
             for name in names if status == 0 else ():
-                stamp_built(program_of(name), before[name]).close()
+                stamp_built(program_of(name), before[name], words).close()
         except OSError as error:
             raise Trouble(f"a program is not built: {error}") from error
     return status
@@ -328,3 +415,12 @@ def library(name: str) -> Path:
     product = library_of(name)
     made(product).close()
     return product.file
+
+
+def verdict_of(name: str, data: bytes) -> Optional[Verdict]:
+    """What the prover said of a program with these bytes, if that is known
+    for the sources as they stand."""
+    product = program_of(name)
+    if not is_built(product, data):
+        return None
+    return verdicts.kept(product.verdict(), product.stamp().read_text("utf-8"))

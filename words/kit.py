@@ -1,20 +1,19 @@
 """Where the Rattle kit is, and what of it runs a program.
 
     kit_folder()          the kit's folder, if there is one
-    machines_of(kit)      what a kit has for each machine
-    own_folder()          what the kit has for this machine
+    own_folder()          the same, where it is needed
     is_emulated()         whether proved programs are emulated here
     command_of(program)   what starts a proved program
     loaded(program)       the same, always with the kit's own C library
 
-Proved programs are for x86-64, and elsewhere they run under the kit's
-emulator. No other file knows where that stands. Imported by the words, the
-comparisons and the benchmark; it is no program.
+Proved programs are for x86-64, as the kit itself is. On another machine they
+run under its emulator, which is no part of the kit, with the kit's loader. No
+other file knows its name. Imported by the words, the comparisons and the
+benchmark; it is no program.
 """
 
 from __future__ import annotations
 
-import os
 import platform
 import shutil
 from pathlib import Path
@@ -28,39 +27,42 @@ EMULATOR, LOADER = "qemu-x86_64", "ld-linux-x86-64.so.2"
 
 def kit_folder() -> Optional[Path]:
     """The folder of the Rattle kit, if there is one."""
-    home = os.environ.get("RATTLE_HOME")
-    if home:
-        return Path(home)
     command = shutil.which("rt")
     return Path(command).resolve().parent.parent if command else None
 
 
-def machines_of(kit: Path) -> Path:
-    """Where a kit has what it needs on each machine."""
-    return kit / "on"
-
-
 def own_folder() -> Path:
-    """Where the kit has what it needs on this machine."""
+    """The folder of the Rattle kit, which is needed."""
     kit = kit_folder()
     if kit is None:
         raise Trouble("rt is not found, and the kit's tools are needed here")
-    return machines_of(kit) / platform.machine()
+    return kit
 
 
 def is_emulated() -> bool:
-    """Whether programs for x86-64 run under the emulator on this machine."""
+    """Whether programs for x86-64 run under an emulator on this machine."""
     return platform.machine() != X86_64
+
+
+def emulator() -> List[str]:
+    """What starts the loader of a program for x86-64: nothing, where the
+    machine can."""
+    if not is_emulated():
+        return []
+    command = shutil.which(EMULATOR)
+    if command is None:
+        raise Trouble(
+            f"{EMULATOR} is not found, and proved programs are for x86-64"
+        )
+    return [command]
 
 
 def loaded(program: str) -> List[str]:
     """What starts a program for x86-64 with the kit's loader and C library,
-    under its emulator where this machine is another."""
-    tools = own_folder() / "toolchain"
-    emulator = [str(tools / "bin" / EMULATOR)] if is_emulated() else []
-    library = tools / "lib"
+    under an emulator where this machine is another."""
+    library = own_folder() / "toolchain" / "lib"
     loader = [str(library / LOADER), "--library-path", str(library)]
-    return [*emulator, *loader, program]
+    return [*emulator(), *loader, program]
 
 
 def command_of(program: str) -> List[str]:

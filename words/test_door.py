@@ -30,7 +30,7 @@ from unittest import mock
 from bench import measuring, ratio
 from bench.measuring import Place, Run
 from bench.ratio import Budget, Column, Table
-from words import kit, running, sources
+from words import built, kit, running, sources, verdicts
 from words.borrowed import Answer
 from words.built import TOP
 from words.programs import (
@@ -42,6 +42,7 @@ from words.streams import Output, Room, Trouble, printable
 from words.testing import record, run_tests
 from words.texts import calls_of_rows
 from words.timeline import pictures
+from words.verdicts import Verdict
 
 OLD = b"what was there before"
 BOOT = bytes.fromhex(
@@ -56,28 +57,33 @@ LONGEST = 536
 # module of `broken` does not compile.
 KIT = {
     "bin/rt": """
-home=${RATTLE_HOME:-$(dirname "$(dirname "$0")")}
-own=$home/on/$(uname -m)
+own=$(dirname "$(dirname "$(readlink -f "$0")")")
+crate=${PWD##*/}
 case $1 in
-doc) echo "$home/docs/START-HERE.md" ;;
-staticlib)
-    rm -f target/stamp/*
-    echo "$2" >target/module.bc
-    [ "$2" != unproved ] || "$own/bin/rattle" build below || exit
+doc) echo "$own/START-HERE.md" ;;
+lib)
+    [ -f "$own/bin/rtlib.py" ] || exit
+    rm -f ../below/out/rlib/stamp
+    "$own/bin/rattle" build --help || exit
+    echo "$crate" >out/module.bc
+    [ "$crate" != unproved ] || "$own/bin/rattle" build below || exit
     "$own/bin/rattle" build --crate-type staticlib "$own/toolchain"
     ;;
 esac
 """,
-    f"on/{platform.machine()}/bin/rattle": """
-"$4/bin/clang" -c target/module.bc
+    "bin/rtlib.py": "",
+    "bin/rattle": """
+[ "$2" = --help ] || "$4/bin/clang" -c out/module.bc
 """,
-    f"on/{platform.machine()}/toolchain/bin/clang": """
+    "toolchain/bin/clang": """
 [ $# -gt 2 ] || exit 0
 for word; do case $word in *.bc) module=$word ;; esac; last=$word; done
 ! grep broken "$module" || exit
 { echo "$1" && cat "$module"; } >"$last"
 """,
 }
+# Of the crate below them, what says that it is proved.
+STAMP = "crates/below/out/rlib/stamp"
 # A word that lasts, and an object of it in whose end the signal comes, which
 # a job in the background would ignore.
 LOST = """
@@ -463,41 +469,43 @@ class Signals(unittest.TestCase):
 class Kit(unittest.TestCase):
     """What of the kit runs a program, on each machine."""
 
-    def on(self, machine: str, home: str = "/kit") -> None:
-        """Be on a machine, with a kit in this folder, or with none."""
+    def on(self, machine: str, **commands: str) -> None:
+        """Be on a machine where these commands stand, and no others."""
         here = mock.patch.object(platform, "machine", return_value=machine)
         here.start()
         self.addCleanup(here.stop)
-        found = mock.patch.dict(os.environ, RATTLE_HOME=home, PATH="")
+        found = mock.patch.object(shutil, "which", commands.get)
         found.start()
         self.addCleanup(found.stop)
 
     def test_itself(self) -> None:
         """On x86-64 a program runs by itself, and needs no kit; beside plain
         C it has the kit's C library."""
-        self.on("x86_64")
-        tools = "/kit/on/x86_64/toolchain"
+        self.on("x86_64", rt="/kit/bin/rt")
         self.assertEqual(kit.command_of("/program"), ["/program"])
         self.assertEqual(kit.loaded("/program"), [
-            f"{tools}/lib/ld-linux-x86-64.so.2", "--library-path",
-            f"{tools}/lib", "/program",
+            "/kit/toolchain/lib/ld-linux-x86-64.so.2", "--library-path",
+            "/kit/toolchain/lib", "/program",
         ])
-        self.on("x86_64", "")
+        self.on("x86_64")
         self.assertEqual(kit.command_of("/program"), ["/program"])
 
     def test_emulated(self) -> None:
-        """Elsewhere it runs under the kit's emulator, with its loader and C
-        library; without a kit that is said."""
-        self.on("aarch64")
-        tools = "/kit/on/aarch64/toolchain"
+        """Elsewhere it runs under an emulator, with the kit's loader and C
+        library; without one of the two that is said."""
+        emulator = {"qemu-x86_64": "/bin/qemu-x86_64"}
+        self.on("aarch64", rt="/kit/bin/rt", **emulator)
         command = [
-            f"{tools}/bin/qemu-x86_64", f"{tools}/lib/ld-linux-x86-64.so.2",
-            "--library-path", f"{tools}/lib", "/program",
+            "/bin/qemu-x86_64", "/kit/toolchain/lib/ld-linux-x86-64.so.2",
+            "--library-path", "/kit/toolchain/lib", "/program",
         ]
         self.assertEqual(kit.command_of("/program"), command)
         self.assertEqual(kit.loaded("/program"), command)
-        self.on("aarch64", "")
+        self.on("aarch64", **emulator)
         with self.assertRaisesRegex(Trouble, "^rt is not found, and "):
+            kit.command_of("/program")
+        self.on("aarch64", rt="/kit/bin/rt")
+        with self.assertRaisesRegex(Trouble, "^qemu-x86_64 is not found, "):
             kit.command_of("/program")
 
 
@@ -518,7 +526,7 @@ class Places(unittest.TestCase):
         )
 
     def test_emulator(self) -> None:
-        """Where the emulator stands."""
+        """What the emulator is called."""
         self.assertEqual(self.files_with("qemu-"), ["words/kit.py"])
 
     def test_path(self) -> None:
@@ -541,8 +549,8 @@ class Native(Folder):
         self.put("tree/bench/native", own.read_text("utf-8"))
         for crate in ("whole", "unproved", "broken"):
             self.put(f"tree/crates/{crate}/src/lib.rt", "")
-        for name in ("crates.txt", "target/stamp/below", "target/rlib/below"):
-            self.put(f"tree/{name}", "")
+        self.put("tree/crates.txt", "")
+        self.put(f"tree/{STAMP}", "")
         self.put("rooms/mine", "")
 
     def put(self, name: str, text: str) -> None:
@@ -551,6 +559,14 @@ class Native(Folder):
         file.parent.mkdir(parents=True, exist_ok=True)
         file.write_text(text, "utf-8")
         file.chmod(0o755)
+
+    def built(self) -> List[str]:
+        """What is built in the tree."""
+        tree = self.folder / "tree"
+        files = tree.glob("crates/*/out/**/*")
+        return sorted(
+            str(file.relative_to(tree)) for file in files if file.is_file()
+        )
 
     def native(self, *words: str, path: str = "") -> Tuple[int, List[str]]:
         """Its status, and what it says, with the kit in the path unless that
@@ -572,8 +588,7 @@ class Native(Folder):
         self.assertEqual(Path("out.o").read_text("utf-8").splitlines(), [
             f"--target={platform.machine()}-unknown-linux-gnu", "whole",
         ])
-        self.assertEqual(os.listdir("tree/target/stamp"), ["below"])
-        self.assertEqual(sorted(os.listdir("tree/target")), ["rlib", "stamp"])
+        self.assertEqual(self.built(), [STAMP])
 
     def test_use(self) -> None:
         """Wrong use is said."""
@@ -590,14 +605,14 @@ class Native(Folder):
         ):
             status, lines = self.native(*words)
             self.assertEqual((status, lines[-1]), (1, said))
-        shutil.rmtree("tree/target/stamp")
+        shutil.rmtree("tree/crates/below/out")
         status, lines = self.native("whole", "out.o")
         self.assertEqual(status, 1)
         self.assertRegex(lines[-1], "^native: nothing is proved in .*/tree$")
-        Path(f"kit/on/{platform.machine()}/toolchain/bin/clang").unlink()
+        Path("kit/toolchain/bin/clang").unlink()
         status, lines = self.native("whole", "out.o")
         self.assertEqual(status, 1)
-        self.assertRegex(lines[-1], "^native: the kit has no compiler for ")
+        self.assertRegex(lines[-1], "^native: the kit has no compiler, ")
         self.assertNotIn("out.o", self.names())
 
     def test_no_kit(self) -> None:
@@ -617,13 +632,84 @@ class Native(Folder):
             "it is not proved, and native proves nothing",
             "native: the library of unproved could not be built",
         ]))
-        self.assertEqual(os.listdir("tree/target/stamp"), ["below"])
+        self.assertEqual(self.built(), [STAMP])
         self.assertEqual(self.native("broken", "out.o"), (1, [
             "broken",
             "native: the module of broken could not be compiled for "
             f"{platform.machine()}",
         ]))
         self.assertNotIn("out.o", self.names())
+
+
+class Verdicts(Folder):
+    """What the prover said of a program, and what is kept of it."""
+
+    WORDS = """\
+== one: its tests
+crate one: modules loaded=0 checked=2
+axioms os: none reached of the 22 declared
+logic=proved tests=1 functions=8 axioms=12 target=x
+rt: one: its tests are proved
+== one
+crate below: modules loaded=0 checked=1
+logic=proved functions=1 axioms=1 target=x
+crate one: modules loaded=0 checked=1
+axioms libc: libc::read, libc::write (2 of the 128 declared)
+logic=proved functions=7 axioms=8 target=x
+rt: one proved
+== other
+crate other: modules loaded=0 checked=1
+logic=not-proved functions=2
+"""
+
+    def test_found(self) -> None:
+        """That on the crate, not on its tests, one below or another."""
+        for crate, line in (
+            ("one", "logic=proved functions=7 axioms=8 target=x"),
+            ("below", "logic=proved functions=1 axioms=1 target=x"),
+            ("other", ""), ("on", ""),
+        ):
+            self.assertEqual(verdicts.found(crate, self.WORDS), line)
+
+    def test_kept(self) -> None:
+        """For the file of its stamp, and for no other."""
+        place, verdict = Path("one.verdict"), Verdict("logic=", ["a", "b"])
+        self.assertIsNone(verdicts.kept(place, "stamp\n"))
+        verdicts.keep(place, "stamp\n", verdict)
+        self.assertEqual(verdicts.kept(place, "stamp\n"), verdict)
+        self.assertIsNone(verdicts.kept(place, "stamp of another\n"))
+        self.assertEqual(self.names(), ["one.verdict"])
+
+    def test_complaints(self) -> None:
+        """What is well is not shown beside what is wrong."""
+        words = (
+            "rt: chose --jobs 2 for one\nfn one::a: proved\n"
+            "fn one::b: proved, may abort\nfn one::c: not proved\n"
+            "src/lib.rt:1:1: error: no\nstatements os: modules loaded=26\n"
+            "crate one: modules loaded=0\naxioms os: none\n"
+            "logic=not-proved functions=2\n"
+        )
+        self.assertEqual(
+            built.complaints(words), "fn one::c: not proved\n"
+            "src/lib.rt:1:1: error: no\nlogic=not-proved functions=2"
+        )
+
+
+class Crates(Folder):
+    """The list of crates."""
+
+    def test_listed(self) -> None:
+        """Libraries, programs and static libraries, by their names."""
+        Path("crates.txt").write_text(
+            "# of those below: none\nlow:\nhigh: low std\n"
+            "high_c staticlib: high # for C\n", "utf-8"
+        )
+        listed: Dict[str, List[str]]
+        listed = {"low": [], "high": ["low", "std"], "high_c": ["high"]}
+        self.assertEqual(built.listed_in(self.folder), listed)
+        self.assertEqual(
+            built.reached("high_c", listed), ["high", "high_c", "low", "std"]
+        )
 
 
 class Ratios(Folder):
@@ -737,7 +823,7 @@ class Ratios(Folder):
         """Nothing is compiled anew where programs are the processor's own;
         elsewhere bench/native is asked, under the lock of the words."""
         native = str(TOP / "bench" / "native")
-        made = str(self.folder / "run_tally.o")
+        made = str(self.folder / "run_tally_c.o")
         for emulated in (False, True):
             objects = [made] if emulated else []
             with mock.patch.multiple(
@@ -746,7 +832,7 @@ class Ratios(Folder):
             ) as found:
                 self.assertEqual(ratio.native_object(self.folder), objects)
             self.assertEqual(found["locked"].called, emulated)
-        found["run"].assert_called_once_with([native, "run_tally", made])
+        found["run"].assert_called_once_with([native, "run_tally_c", made])
 
 
 class Words(unittest.TestCase):

@@ -99,8 +99,7 @@ fn tally_repeated(
 }
 
 // From boot, the rows of a setup once, and then the rows of a loop so many times; the sum of the loop's answers.
-#[unsafe(no_mangle)]
-pub extern "C" fn run_rows(setup: &[u8], rows: &[u8], repeats: u64) -> u64
+pub fn run_rows(setup: &[u8], rows: &[u8], repeats: u64) -> u64
     ensures { result ≡ sum_of setup.now rows.now repeats }
 {
     let engine = Engine::boot();
@@ -156,8 +155,7 @@ fn tally_repeated_by_value(tally: Tally, rows: &[u8], repeats: u64) -> Tally
 }
 
 // The same sum as `run_rows`, by value.
-#[unsafe(no_mangle)]
-pub extern "C" fn run_rows_by_value(setup: &[u8], rows: &[u8], repeats: u64) -> u64
+pub fn run_rows_by_value(setup: &[u8], rows: &[u8], repeats: u64) -> u64
     ensures { result ≡ sum_of setup.now rows.now repeats }
 {
     let engine = Engine::boot();
@@ -214,8 +212,7 @@ fn tally_repeated_by_calls(called: Called, rows: &[u8], repeats: u64) -> Called
 }
 
 // The same sum as `run_rows`, by public calls.
-#[unsafe(no_mangle)]
-pub extern "C" fn run_rows_by_calls(setup: &[u8], rows: &[u8], repeats: u64) -> u64
+pub fn run_rows_by_calls(setup: &[u8], rows: &[u8], repeats: u64) -> u64
     ensures { result ≡ sum_of setup.now rows.now repeats }
 {
     let kernel = Kernel::boot();
