@@ -1,5 +1,7 @@
 // The kernel: boot, the thirteen calls, a call row, and whether the kernel is sound. Each call tests first that the kernel is sound, and hands
 // back the kernel that follows with its answer.
+#![tactic(auto)]
+
 ghost use Rattle.std.specs.Prelude.{◌≡◌, true, ◌↔◌};
 ghost use Rattle.calls.specs.declared.Call.TheVariants.{Start, CreateThread, CreateMutex, CreateCondition, CreateTimer, Acquire, Release, Wait, Signal, Broadcast, StartTimer, StopTimer, Tick};
 ghost use Rattle.calls.specs.declared.Decoded.TheVariants.{Taken, WrongForm};

@@ -1,4 +1,6 @@
 // The saved record: a kernel loaded from bytes, and a kernel saved into a lent buffer.
+#![tactic(auto)]
+
 ghost use Rattle.std.specs.Prelude.{◌≡◌};
 ghost use Rattle.record_bytes.specs.Loading.{load};
 ghost use Rattle.record.specs.Records.{refused_model, loaded_of, Saves};

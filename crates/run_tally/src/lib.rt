@@ -1,5 +1,7 @@
 // For measuring: rows one after the other, and the sum of their answers; on an engine that stands in lent arrays, on one by value, and by the public calls of
 // a kernel, each of which tests first that the kernel is sound.
+#![tactic(auto)]
+
 ghost use Rattle.std.specs.Prelude.{◌≡◌};
 ghost use Rattle.run_tally.specs.Sums.{add_weight, tally_on, tally_by, tally_from, Describes, tally_row, over_rows, repeated, sum_of};
 

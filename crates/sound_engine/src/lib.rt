@@ -1,5 +1,7 @@
 // Whether an engine is sound, and its page: the page is read where the engine's tables lie, the tables that follow from the page are built beside
 // them, and the two are compared byte by byte and word by word. Whether started, the counts and the tick count are the page's own.
+#![tactic(auto)]
+
 ghost use Rattle.std.specs.Prelude.{◌≡◌, ◌↔◌, true};
 ghost use Rattle.page_describing.specs.Describing.{describe_model};
 ghost use Rattle.sound_engine.specs.Rebuilding.{Rebuilt, Follows};

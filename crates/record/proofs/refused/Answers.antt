@@ -1,0 +1,5 @@
+-- `refused` meets its contract by boot's. Assumes nothing.
+use Rattle.record.proofs.refused.Goals as goal
+
+pub returns : goal.returns
+returns c = λ i. record { answer = c.args.answer; kernel = c.boot-kernel.ensures i }
