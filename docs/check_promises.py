@@ -31,7 +31,7 @@ from pathlib import Path
 from typing import Dict, Iterator, List, Tuple
 
 from docs.edits import Wrong, edits, name_of, wrongs
-from docs.shapes import Function, one_result
+from docs.shapes import Function, clauses_in, one_result
 from docs.tree import CRATES, TOP, count, crates
 
 PAGE = TOP / "docs" / "PROMISES.md"
@@ -39,13 +39,16 @@ HEADING = "| Function | Promise | One result by | Rules out |"
 # What others may cite of the wheel: its structs, its promise, and how the
 # prover reads the parameters of a call of its functions.
 WHEEL = re.compile(
-    r"Rattle·wheel\."
+    r"Rattle\.wheel\."
     r"((specs\.(declared\.\w+|Hung|Promise)|proofs\.Promise)\.\{|"
-    r"(specs\.Hung|proofs\.Promise) as |proofs\.\w+\.\w+\.Reads as )"
+    r"(specs\.Hung|proofs\.Promise) as |proofs\.\w+\.\w+\.Reads as )|"
+    r"\bwheel::(specs::(Hung|Promise)|proofs::Promise)::(?!Opened\b)"
 )
+# Something of the wheel's facts that a line cites.
+CITED = re.compile(r"\bRattle\.wheel\.|\bwheel::(specs|proofs)\b")
 # Names of its inside: what stands behind the promise's names, and the fields
-# of its structs.
-INSIDE = re.compile(r"\bOpened\b|\.(words|ids)(?![-\w])")
+# of its structs. A clause of a promise may have a field's name.
+INSIDE = re.compile(r"\bOpened\b|(?<!\bensures)\.(words|ids)(?![-\w])")
 OUTSIDE = ("program_files", "program_records")
 OPEN = "open: it speaks to the system, which decides"
 WRONGS: List[Wrong] = list(wrongs())
@@ -59,9 +62,6 @@ FUNCTION = re.compile(
     r"^( *)pub (?:extern \"C\" )?fn (\w+)\b(.*?)(?: \{\n|\n\2\{)",
     re.M | re.S,
 )
-PROMISE = re.compile(
-    r"ensures[^{]*\{ λ [\w_]+\. (?:do )?⌜ (.*?) ⌝ \}", re.S
-)
 
 # A public function's head and contract, without its body.
 CONTRACT = re.compile(
@@ -72,14 +72,14 @@ SHOWN = (
     ("crates/kernel/specs/Kernels.antt", "SoundKernel x = "),
     ("crates/kernel/specs/Kernels.antt", "pub record Steps "),
     ("crates/record/specs/Records.antt", "pub record Saves "),
-    ("crates/record_bytes/proofs/Loading.antt", "pub load-after-save : "),
-    ("crates/record_bytes/proofs/Loading.antt", "pub loads-saves-same : "),
+    ("crates/record_bytes/proofs/Loading.antt", "pub load_after_save : "),
+    ("crates/record_bytes/proofs/Loading.antt", "pub loads_saves_same : "),
     ("crates/demand/specs/Demand.antt", "Agrees x b =\n"),
     ("crates/demand/specs/Demand.antt", "pub record Demand3 "),
     ("crates/demand/proofs/Demand.antt",
-     "pub kernel-agrees-with-the-book : Demand3"),
-    ("crates/kernel/proofs/Promised.antt", "pub steps-once : "),
-    ("crates/record/proofs/Saving.antt", "pub saves-once : "),
+     "pub kernel_agrees_with_the_book : Demand3"),
+    ("crates/kernel/proofs/Promised.antt", "pub steps_once : "),
+    ("crates/record/proofs/Saving.antt", "pub saves_once : "),
 )
 
 # What is checked, and whether it is as it should be.
@@ -176,12 +176,11 @@ def functions_of(crate: str) -> Iterator[Function]:
         head = re.split(r"\s+ensures\b", part.group(4))[0]
         name = part.group(3)
         name = f"{kind}::{name}" if part.group(2) else name
-        promises = PROMISE.findall(part.group(4))
         returns = head.split("->")[1].strip() if "->" in head else ""
         returns = kind if returns == "Self" else returns
         yield Function(
             f"{crate}::{name}", returns, lent_in(head),
-            tuple(" ".join(promise.split()) for promise in promises),
+            tuple(clauses_in(part.group(4))),
         )
 
 
@@ -231,7 +230,7 @@ def check_file(file: Path) -> Iterator[Result]:
     belongs to its promise; in such a file nothing looks into the wheel."""
     place = file.relative_to(TOP)
     lines = file.read_text(encoding="utf-8").splitlines()
-    cites = [line for line in lines if "Rattle·wheel." in line]
+    cites = [line for line in lines if CITED.search(line)]
     for line in cites:
         yield f"{place} cites {line}", WHEEL.search(line) is not None
     for line in lines if cites else []:

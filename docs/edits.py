@@ -1,5 +1,5 @@
-"""Reads the must-fail edits: which wrong programs they hold, and of which
-function.
+"""Reads the must-fail edits: which wrong programs they hold, of which
+function, and the text that they make of a crate's files.
 
 An edit holds one wrong program or several. A line `wrong: NAME in FUNCTION`
 begins one, and the pairs after it are its own; FUNCTION is the function whose
@@ -15,7 +15,7 @@ from __future__ import annotations
 import re
 from dataclasses import dataclass
 from pathlib import Path
-from typing import Iterator, List
+from typing import Dict, Iterator, List
 
 from docs.tree import CRATES
 
@@ -53,6 +53,28 @@ def wrongs() -> Iterator[Wrong]:
     """The wrong programs of all edits."""
     for path in edits():
         yield from wrongs_of(path)
+
+
+def applied(path: Path) -> Dict[str, str]:
+    """The files that an edit changes, by their places in the crate, with the
+    text that they have then; none where it cannot be applied."""
+    texts: Dict[str, str] = {}
+    place = old = ""
+    for line in path.read_text(encoding="utf-8").splitlines():
+        kind, _, rest = line.partition(": ")
+        if kind == "file":
+            place = rest.strip()
+            file = path.parent.parent / place
+            if place not in texts and file.is_file():
+                texts[place] = file.read_text(encoding="utf-8")
+        elif kind == "old":
+            old = rest
+        elif kind.rstrip(":") == "new":
+            if not old or texts.get(place, "").count(old) != 1:
+                return {}
+            texts[place] = texts[place].replace(old, rest)
+            old = ""
+    return texts
 
 
 def name_of(path: Path) -> str:

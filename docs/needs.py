@@ -2,13 +2,13 @@
 
     python3 -m docs.needs
 
-A crate needs the crates that its files name, and those whose structs its code
-reaches into: that the prover asks for, since it has to name the type of each
-value on the way. A struct is reached from the types and the functions that the
-code brings in, through fields and the types that aliases stand for. That all
-that is needed is listed, the prover sees to; here, that nothing else is. The
-last line is `N passed, M failed`; the exit status is 0 only if something was
-checked and M is 0.
+A crate needs the crates that its files name, and is listed besides with those
+whose structs its code reaches into, whose change it sees. A struct is reached
+from the types and the functions that the code brings in, through fields and
+the types that aliases stand for. That all that its files name is listed, the
+prover sees to; here, that nothing else is than these two. The last line is
+`N passed, M failed`; the exit status is 0 only if something was checked and M
+is 0.
 """
 
 from __future__ import annotations
@@ -18,16 +18,17 @@ import re
 import sys
 from typing import Dict, Iterator, List, Set, Tuple
 
-from docs.tree import CRATES, count, listed
+from docs.tree import CRATES, brought, count, listed
 
 # A type by its crate and its name.
 Type = Tuple[str, str]
 TYPE = re.compile(
     r"^(?:pub )?(?:struct|enum|type) (\w+)(.*?(?:^\}|;$))", re.M | re.S
 )
-HEAD = re.compile(r"\bfn (\w+)\s*(\(.*?)(?:\bensures\b|\{\n)", re.S)
-BROUGHT = re.compile(r"^use (\w+)::(\w+);$", re.M)
-OURS = re.compile(r"Rattle·([a-z_]+)(?=[.·])")
+HEAD = re.compile(
+    r"\bfn (\w+)(?:<[^(]*>)?\s*(\(.*?)(?:\bensures\b|\{\n)", re.S
+)
+OURS = re.compile(r"\bRattle\.([a-z_]+)(?=\.)")
 PATH = re.compile(r"(?<![\w:])([a-z_]+)::")
 
 
@@ -56,7 +57,7 @@ class Tree:
             for name, head in HEAD.findall(code)
         }
         self.brought: Dict[str, Dict[str, str]] = {
-            crate: {name: other for other, name in BROUGHT.findall(code)}
+            crate: {name: other for other, name in brought(code)}
             for crate, code in self.code.items()
         }
 

@@ -8,7 +8,7 @@ It begins at what is promised: the contracts of the public functions of
 follows the imports of each file of definitions to the next, so that whatever
 a promise says stands in the list; a name of ours in a form that is not
 followed is refused. It ends at what the kit brings, and at one name of ours,
-`engineOf`, the tables that the code keeps for a state: README.md says why.
+`engine_of`, the tables that the code keeps for a state: README.md says why.
 Lines are counted with comments and imports, and without empty ones. README.md
 also has each crate in the group that crates.txt has it in.
 """
@@ -20,19 +20,21 @@ import re
 import sys
 from typing import Dict, Iterator, List, NamedTuple, Set, Tuple
 
-from docs.tree import CRATES, TOP, count, crates
+from docs.shapes import clauses_in
+from docs.tree import CRATES, TOP, brought, count, crates
 
 CODE = ("kernel/src/lib.rt", "record/src/lib.rt")
 STATEMENT = "demand/specs/Demand.antt"
 # The engine that stands for a state; its inside need not be believed.
-INSIDE = ("value_engine/specs/Stands.antt", ["engineOf"])
+INSIDE = ("value_engine/specs/Stands.antt", ["engine_of"])
 MOST = 2000
 BEGIN = "<!-- printed by python3 -m docs.reading --list -->"
 END = "<!-- end of what is printed -->"
 USE = re.compile(
-    r"^(?:ghost )?use Rattle·([a-z_]+)(?:·\w+)?\.specs\.([\w.-]+?)"
+    r"^(?:ghost )?use Rattle\.([a-z_]+)\.specs\.([\w.]+?)"
     r"(?:\.\{(.*)\}| as (\S+?));?$", re.MULTILINE
 )
+NAMED = re.compile(r"\bRattle\.([a-z_]+)\b")
 
 
 class Import(NamedTuple):
@@ -51,9 +53,11 @@ class Believed(NamedTuple):
 
 
 def imports(text: str) -> Iterator[Import]:
-    """The imports of one text."""
+    """What one text brings in of ours."""
     for crate, place, names, alias in USE.findall(text):
-        yield Import(crate, place.split("."), re.split(r", *", names or alias))
+        if crate in crates():
+            inner = re.split(r", *", names or alias)
+            yield Import(crate, place.split("."), inner)
 
 
 def without_imports(text: str) -> str:
@@ -63,7 +67,7 @@ def without_imports(text: str) -> str:
 
 def contracts(text: str) -> str:
     """What the functions of a file of code promise."""
-    return "\n".join(re.findall(r"⌜.*?⌝", text, re.DOTALL))
+    return "\n".join(clauses_in(text))
 
 
 def said(file: str) -> str:
@@ -75,9 +79,9 @@ def said(file: str) -> str:
 def is_used(names: List[str], text: str) -> bool:
     """Whether one of the names stands in a text, by its new name where it has
     one; an operator by its sign."""
-    own = [name.split(" as ")[-1].strip("_") for name in names]
+    own = [name.split(" as ")[-1].strip("◌") for name in names]
     return any(
-        re.search(rf"(?<![\w·-]){re.escape(name)}(?![\w·-])", text)
+        re.search(rf"(?<![\w'-]){re.escape(name)}(?![\w'-])", text)
         for name in own
     )
 
@@ -86,7 +90,8 @@ def unread(file: str) -> int:
     """How often a file names something of ours in a form that is not
     followed: by its whole path, of proofs, or over several lines."""
     text = re.sub(r"--.*", "", (CRATES / file).read_text("utf-8"))
-    return text.count("Rattle·") - len(USE.findall(text))
+    ours = [crate for crate in NAMED.findall(text) if crate in crates()]
+    return len(ours) - len(list(imports(text)))
 
 
 def follow(file: str, found: Believed) -> None:
@@ -114,7 +119,8 @@ def named_types(file: str, found: Believed) -> None:
     """Add the types of other crates that a public function's head names."""
     code = (CRATES / file).read_text("utf-8")
     heads = signatures(code)
-    for crate, name in re.findall(r"^use (\w+)::(\w+);$", code, re.MULTILINE):
+    ours = [one for one in brought(code) if one[0] in crates()]
+    for crate, name in ours:
         if declaration(crate, name) and is_used([name], heads):
             found.structs.add((crate, name))
 
@@ -218,7 +224,7 @@ def groups() -> List[Tuple[str, List[str]]]:
         if line.startswith("#"):
             found.append((line[1:].partition(":")[0].strip(), []))
         elif line:
-            found[-1][1].append(line.partition(":")[0])
+            found[-1][1].append(line.partition(":")[0].split()[0])
     return [(name, sorted(inner)) for name, inner in found]
 
 

@@ -19,24 +19,26 @@ from typing import (
     Dict, FrozenSet, Iterator, List, Mapping, Optional, Sequence, Set, Tuple,
 )
 
-RETURNED = "r"
+RETURNED = "result"
 # A relation that is a record of its own: which of its arguments are results,
 # counted from 0, and the theorem that it allows one of each only.
 RELATIONS: Mapping[str, Tuple[Tuple[int, ...], str]] = {
-    "Steps": ((2,), "steps-once"),
-    "Saves": ((2, 3), "saves-once"),
-    "Gives": ((3, 4), "gives-once"),
-    "Ends": ((2, 3), "ends-once"),
+    "Steps": ((2,), "steps_once"),
+    "Saves": ((2, 3), "saves_once"),
+    "Gives": ((3, 4), "gives_once"),
+    "Ends": ((2, 3), "ends_once"),
 }
+# Where a clause of a promise begins, with its name where it has one.
+CLAUSE = re.compile(r"^ *ensures\b[^{\n]*\{", re.M)
 # Types that have values, so that what holds for every value of one holds.
 INHABITED = ("Timing", "Counts", "State")
 # An array that was lent, or is returned, read as what it stands for, and the
 # theorem that one array does so.
 READINGS: Mapping[str, str] = {
-    "schedulerIn": "bytes-once", "signalledIn": "signalled-once",
-    "steppedIn": "stepped-once", "steppedOn": "arrays-once",
-    "clockIn": "clock-once", "wheelIn": "words-once",
-    "tickedWith": "turned-once",
+    "scheduler_in": "bytes_once", "signalled_in": "signalled_once",
+    "stepped_in": "stepped_once", "stepped_on": "arrays_once",
+    "clock_in": "clock_once", "wheel_in": "words_once",
+    "ticked_with": "turned_once",
 }
 # A name for several values as one, which determines each of them.
 TOGETHER = ("at",)
@@ -65,6 +67,16 @@ class Determined:
 
     results: FrozenSet[str]
     theorem: str
+
+
+def clauses_in(code: str) -> Iterator[str]:
+    """What stands in the braces of each clause that code ensures."""
+    for begin in CLAUSE.finditer(code):
+        depth, at = 1, begin.end()
+        while depth and at < len(code):
+            depth += (code[at] == "{") - (code[at] == "}")
+            at += 1
+        yield " ".join(code[begin.end():at - 1].split())
 
 
 def split_top(text: str, sign: str) -> List[str]:
@@ -127,16 +139,16 @@ def facts(clause: str) -> Iterator[str]:
 
 def mentions(text: str, function: Function) -> bool:
     """Whether a text names a result."""
-    named = [r"\br\b", *(rf"\b{lent} \.exit\b" for lent in function.lent)]
-    return any(re.search(pattern, text) for pattern in named)
+    named = [RETURNED, *(rf"{lent}\.new" for lent in function.lent)]
+    return any(re.search(rf"\b{pattern}\b", text) for pattern in named)
 
 
 def result_named(text: str, function: Function) -> Optional[str]:
     """The one result, or field of what is returned, that a text is."""
     text = bare(text)
-    if re.fullmatch(r"r( \.\w+)*", text):
+    if re.fullmatch(rf"{RETURNED}(\.\w+)*", text):
         return text
-    found = re.fullmatch(r"now \((\w+) \.exit\)", text)
+    found = re.fullmatch(r"(\w+)\.new", text)
     lent = found.group(1) if found else None
     return lent if lent in function.lent else None
 
@@ -156,11 +168,11 @@ def arguments(text: str) -> List[str]:
 
 
 def split_words(text: str) -> Iterator[str]:
-    """The words of an application; a field goes with the word before it."""
+    """The words of an application, each with its fields."""
     depth, start = 0, 0
     for at, letter in enumerate(text + " "):
         depth += (letter in "({") - (letter in ")}")
-        if depth == 0 and letter == " " and not text.startswith(".", at + 1):
+        if depth == 0 and letter == " ":
             yield text[start:at].strip()
             start = at + 1
 
@@ -173,14 +185,14 @@ def by_equation(
         return None
     whole = result_named(left, function)
     if whole is not None:
-        return Determined(frozenset([whole]), "equation-once")
+        return Determined(frozenset([whole]), "equation_once")
     words = arguments(left)
     named = [result_read(word, function) for word in words[1:]]
     results = frozenset(name for name in named if name is not None)
     if words and words[0] in READINGS and results:
         return Determined(results, READINGS[words[0]])
     if words and words[0] in TOGETHER and len(results) == len(named):
-        return Determined(results, "equation-once")
+        return Determined(results, "equation_once")
     return None
 
 
@@ -205,9 +217,9 @@ def by_relation(
 def determined(fact: str, function: Function) -> Optional[Determined]:
     """What one fact determines."""
     sides = split_top(fact, "↔")
-    told = re.fullmatch(r"(r(?: \.\w+)*) ≡ true", bare(sides[0]))
+    told = re.fullmatch(rf"({RETURNED}(?:\.\w+)*) ≡ true", bare(sides[0]))
     if len(sides) == 2 and told and not mentions(sides[1], function):
-        return Determined(frozenset([told.group(1)]), "exactly-once")
+        return Determined(frozenset([told.group(1)]), "exactly_once")
     sides = split_top(fact, "≡")
     if len(sides) == 2:
         return by_equation(sides[0], sides[1], function)
@@ -225,7 +237,7 @@ def is_covered(
     if result in known:
         return True
     parts = fields.get(function.returns, ()) if result == RETURNED else ()
-    named = {f"{RETURNED} .{part}" for part in parts}
+    named = {f"{RETURNED}.{part}" for part in parts}
     return bool(named) and named <= known
 
 

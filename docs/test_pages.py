@@ -17,6 +17,7 @@ from typing import Callable, Dict, List, Sequence, Tuple
 from unittest import mock
 
 from docs import check_promises, edits, needs, reading, tree
+from docs.shapes import Function
 
 SAYS = "crates/high/specs/Says.antt"
 CODE = (
@@ -33,13 +34,14 @@ FILES: Dict[str, str] = {
     "crates/low/specs/Unused.antt": "-- What is not.\nother = 2\n",
     "crates/high/specs/Lib.antt": "pub mod Says\n",
     SAYS: (
-        "-- What is said.\nuse Rattle·low.specs.Used.{used}\n"
-        "use Rattle·low.specs.Unused.{other}\n\n  said x =\n    used\n"
+        "-- What is said.\nuse Rattle.std.specs.Prelude.{used}\n"
+        "use Rattle.low.specs.Used.{used}\n"
+        "use Rattle.low.specs.Unused.{other}\n\n  said x =\n    used\n"
     ),
     "crates/low/src/lib.rt": "// requires nothing\n",
     "crates/high/src/lib.rt": (
-        "ghost use Rattle·high·specs.specs.Says.{said};\n\n"
-        "pub fn f() -> u8\n    ensures { λ r. ⌜ r ≡ said 1 ⌝ }\n{\n    1\n}\n"
+        "ghost use Rattle.high.specs.Says.{said};\n\n"
+        "pub fn f() -> u8\n    ensures { result ≡ said 1 }\n{\n    1\n}\n"
     ),
     "crates/high/must-fail/a_and_1_more.edit": (
         "file: src/lib.rt\nwrong: a in f\nwrong: b in g\n"
@@ -61,7 +63,7 @@ def follows_what_is_said() -> bool:
     is not; lines that are empty do not count."""
     return listed() == [
         ("crates/low/specs/Used.antt", 3, "What is used."),
-        ("crates/high/specs/Says.antt", 5, "What is said."),
+        ("crates/high/specs/Says.antt", 6, "What is said."),
         ("crates/high/src/lib.rt", 3,
          "The public functions' contracts alone."),
     ]
@@ -124,6 +126,43 @@ def shows_contracts() -> bool:
     ]
 
 
+def goods_of(line: str) -> List[bool]:
+    """What is said of a file that cites the wheel's promise, with a line."""
+    file = tree.CRATES / "high/specs/Wheels.antt"
+    cited = "use Rattle.wheel.specs.Promise.{wheel_in}\n"
+    file.write_text(f"{cited}{line}\n", encoding="utf-8")
+    return [good for _, good in check_promises.check_file(file)]
+
+
+def keeps_out_of_the_wheel() -> bool:
+    """A file that cites the wheel cites its promise alone, and names nothing
+    of its inside; a clause of the promise may have a field's name."""
+    return (
+        goods_of("x = c.rest.ensures.ids") == [True]
+        and goods_of("x = w.ids") == [True, False]
+        and goods_of("use Rattle.wheel.specs.Inside.{made}") == [True, False]
+        and goods_of("use Rattle.wheel.specs.Promise.Opened.{wheel_is}")
+        == [True, False, False]
+        and goods_of("// using(wheel::proofs::Laws::start)") == [True, False]
+    )
+
+
+def reads_clauses() -> bool:
+    """A function's promise is all that its clauses have in their braces, also
+    of those that have a name, and nothing of the next one's."""
+    code = (
+        "pub fn f(cells: &mut [u8], n: &u8) -> u8\n"
+        "    ensures always { at result = record { a = 1 } }\n"
+        "    ensures means { n.now ≡ 2 → cells.new ≡ b }\n{\n    1\n}\n\n"
+        "fn g() -> u8\n    ensures { c }\n{\n    1\n}\n"
+    )
+    (tree.CRATES / "high/src/lib.rt").write_text(code, encoding="utf-8")
+    return list(check_promises.functions_of("high")) == [Function(
+        "high::f", "u8", ("cells",),
+        ("at result = record { a = 1 }", "n.now ≡ 2 → cells.new ≡ b"),
+    )]
+
+
 def asks_for_nothing() -> bool:
     """A function that requires something is refused, whatever is said of it
     in a comment."""
@@ -148,9 +187,9 @@ def refuses_other_forms() -> bool:
     renamed = FILES[SAYS].replace("{used}", "{used as taken}")
     taken = renamed.replace("    used\n", "    taken\n")
     return (
-        refused_in(name, "said = Rattle·low.specs.Used.used\n")
-        and refused_in(name, "use Rattle·low.proofs.Used.{used}\n")
-        and refused_in(name, "use Rattle·low.specs.Used.{\n  used\n}\n")
+        refused_in(name, "said = Rattle.low.specs.Used.used\n")
+        and refused_in(name, "use Rattle.low.proofs.Used.{used}\n")
+        and refused_in(name, "use Rattle.low.specs.Used.{\n  used\n}\n")
         and not refused_in(name, taken)
         and listed()[0][0] == "crates/low/specs/Used.antt"
     )
@@ -168,13 +207,15 @@ def knows_needs() -> bool:
     through an alias too, and no other."""
     put = {
         "crates.txt": "far:\nlow: far\nidle:\nhigh: far low idle\n",
-        "crates/far/src/lib.rt": "pub struct One {\n    pub a: u8,\n}\n",
+        "crates/far/src/lib.rt": (
+            "#[derive(Clone, Copy)]\npub struct One {\n    pub a: u8,\n}\n"
+        ),
         "crates/low/src/lib.rt": (
             "use far::One;\n\npub type Many = [One; 3];\n\n"
             "pub struct Two {\n    pub many: Many,\n}\n"
         ),
         "crates/high/src/lib.rt": (
-            "use low::Two;\n\npub fn f(x: Two) -> u8 {\n    1\n}\n"
+            "use low::{Many, Two};\n\npub fn f(x: Two) -> u8 {\n    1\n}\n"
         ),
     }
     for name, text in put.items():
@@ -206,6 +247,8 @@ TRIALS: Sequence[Tuple[str, Callable[[], bool]]] = (
     ("the blocks of a page", holds_blocks),
     ("what a page has to show", holds_what_is_shown),
     ("the contracts that it has to show", shows_contracts),
+    ("what is cited of the wheel", keeps_out_of_the_wheel),
+    ("the clauses of a promise", reads_clauses),
     ("functions that ask for nothing", asks_for_nothing),
     ("names that are not followed", refuses_other_forms),
     ("the crates that a crate needs", knows_needs),

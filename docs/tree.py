@@ -6,13 +6,16 @@ Imported by the checks of the pages; it is no program.
 
 from __future__ import annotations
 
+import re
 from pathlib import Path
-from typing import Dict, List
+from typing import Dict, Iterator, List, Tuple
 
 from words.built import listed_in
 
 TOP = Path(__file__).resolve().parent.parent
 CRATES = TOP / "crates"
+# A line of code that brings in one name, or several in braces.
+BROUGHT = re.compile(r"^(?:pub )?use (\w+)::(?:(\w+)|\{([^}]*)\});$", re.M)
 
 
 def listed() -> Dict[str, List[str]]:
@@ -23,6 +26,13 @@ def listed() -> Dict[str, List[str]]:
 def crates() -> List[str]:
     """The crates in the order of crates.txt, which is that of the layers."""
     return list(listed())
+
+
+def brought(code: str) -> Iterator[Tuple[str, str]]:
+    """What a file of code brings in: a crate, and a name of it."""
+    for crate, one, several in BROUGHT.findall(code):
+        for name in one.split() + several.replace(",", " ").split():
+            yield crate, name
 
 
 def count(results: Dict[str, bool]) -> int:

@@ -13,7 +13,7 @@ use Rattle.laws.specs.Filling.{filled}
 use Rattle.laws.proofs.Bools.{by_cases, cond_true, cond_false}
 use Rattle.laws.proofs.Lists.{by_equal, by_below, length_tabulate, get_d_tabulate, tabulate_same, tabulate_below, tabulate_one}
 use Rattle.rules.specs.Queues.{empty_set}
-use Rattle.rules.specs.State.{Where, running, ready, for_mutex, on_condition, same, Thread, Mutex, no_mutex, no_thread, thread, mutex, tied, highest_ceiling, priority, set_at}
+use Rattle.rules.specs.State.{Where, running, ready, for_mutex, on_condition, same, Thread, no_mutex, no_thread, thread, mutex, tied, highest_ceiling, priority, set_at}
 use Rattle.rules.specs.Page as rules
 use Rattle.rules.specs.Page.{no_row, thread_row, thread_of, where_of, runner_from, rows_of, page_formed, page_sound, state_code, object_code}
 use Rattle.rules_soundness.proofs.Rows.{priority_base}

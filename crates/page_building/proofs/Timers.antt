@@ -24,7 +24,6 @@ use Rattle.value_engine.specs.declared.Timer as engine
 use Rattle.value_engine.specs.Engines.{stopped_row}
 use Rattle.value_engine.specs.Stands.{row_of_timer, timer_in, hung_of}
 use Rattle.value_engine.proofs.Timers.{left_short}
-use Rattle.page.specs.declared.TimerRow.{TimerRow}
 use Rattle.page.specs.declared.Page.{Page}
 use Rattle.page.specs.Says.{timer_said, no_timer_row, stopped_timer_row, said}
 use Rattle.page_building.specs.Building.{timer_from, timer_rows, hung_below}

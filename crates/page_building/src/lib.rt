@@ -1,5 +1,7 @@
 // The engine that a page describes, in lent arrays and by value: its rows up to the counts, blank rows past them, each thread in its queue in the order of the places, and
 // each timer on its spoke.
+#![tactic(auto)]
+
 ghost use Rattle.std.specs.Prelude.{min, ◌≡◌, true};
 ghost use Rattle.wheel.specs.Promise.{wheel_in};
 ghost use Rattle.rules.specs.Page.{page_formed, page_sound, described_by};

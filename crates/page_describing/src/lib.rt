@@ -1,4 +1,6 @@
 // The page of an engine: what a saved record says of it, row by row, for any engine whatever. The engine stands in three lent arrays and is read there.
+#![tactic(auto)]
+
 ghost use Rattle.std.specs.Prelude.{◌≡◌, true};
 ghost use Rattle.laws.specs.Lists.{tabulate};
 ghost use Rattle.queue.specs.Linking.{read_model};

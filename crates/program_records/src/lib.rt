@@ -1,11 +1,14 @@
 // What the programs share: a run begun at the record in a file or at boot, and the record that it ends in, written into a file.
+#![tactic(auto)]
+
 ghost use Rattle.std.specs.Prelude.{replicate};
 ghost use Rattle.run_pieces.specs.Pieces.{Ends};
 
-use program_files::{argument, fill, open_input, say, within, write};
+use program_files::{PATH, System, argument, fill, open_input, say, within, write};
 use record::{ROOM, Saved};
 use run_pieces::Run;
 use run_text::save_refusal;
+use std::io::Write;
 
 // A run, and whether there is one: where START cannot be read there is none.
 #[derive(Clone, Copy)]
@@ -36,17 +39,15 @@ fn at_boot(ready: bool) -> Start {
 }
 
 // The run at the record in a file, or at boot for the word `boot`. No record has more than 536 bytes, so the first 1,024 of a file decide.
-fn start_in(path: &[u8]) -> Start {
+fn start_in(rt: &impl System, path: &[u8]) -> Start {
     if is_boot(path) {
         return at_boot(true);
     }
-    let input = open_input(path);
-    if input < 0 {
+    let Some(mut input) = open_input(rt, path) else {
         return at_boot(false);
-    }
+    };
     let mut buffer = [0u8; ROOM];
-    let filled = fill(input, path, &mut buffer);
-    libc::close(input);
+    let filled = fill(rt, &mut input, path, &mut buffer);
     if filled.failed {
         return at_boot(false);
     }
@@ -56,35 +57,40 @@ fn start_in(path: &[u8]) -> Start {
 }
 
 // The run that the argument i names.
-pub fn start_named(i: usize) -> Start {
-    let mut path = io::buffer();
-    let word = argument(i, &mut path);
+pub fn start_named(rt: &impl System, i: usize) -> Start {
+    let mut path = [0u8; PATH];
+    let word = argument(rt, i, &mut path);
     if !word.whole {
         return at_boot(false);
     }
     let length = word.length;
-    start_in(&path[..length])
+    start_in(rt, &path[..length])
 }
 
 // The record of a run; a save that is refused is said in one line on standard error. A record has at most 536 bytes.
-pub fn record_of(run: Run) -> Record
+pub fn record_of(rt: &impl System, run: Run) -> Record
     ensures { Ends run (replicate 1024 0) result.saved result.bytes }
 {
     let mut bytes = [0u8; ROOM];
     let saved = run.end(&mut bytes);
     if saved.answer != 0 {
-        say(save_refusal(saved.answer));
+        say(rt, save_refusal(saved.answer));
     }
     Record { bytes, saved }
 }
 
 // Writes a record; whether that was done. Of a save that was refused there is none.
-pub fn write_record(record: Record, output: i32, path: &[u8]) -> bool {
+pub fn write_record(
+    rt: &impl System,
+    record: Record,
+    output: &mut impl Write,
+    path: &[u8],
+) -> bool {
     let saved = record.saved;
     if saved.answer != 0 {
         return false;
     }
     let bytes = record.bytes;
     let length = within(saved.length as usize, &bytes);
-    write(output, path, &bytes[..length])
+    write(rt, output, path, &bytes[..length])
 }

@@ -1,4 +1,6 @@
 // The lines of rows, laid into a buffer: one line for each row's answer.
+#![tactic(auto)]
+
 ghost use Rattle.std.specs.Prelude.{◌≡◌, ◌≤◌, length};
 ghost use Rattle.run_text.specs.Texts.{line_bytes};
 ghost use Rattle.run_rows.specs.Many.{rows_in};

@@ -1,4 +1,6 @@
 // A row of 8 bytes as one call: taken apart, done or answered 17.
+#![tactic(auto)]
+
 ghost use Rattle.std.specs.Prelude.{◌≡◌, true};
 ghost use Rattle.rules.specs.State.{State};
 ghost use Rattle.rules.specs.Sound.{sound};

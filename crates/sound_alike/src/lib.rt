@@ -1,5 +1,7 @@
 // Whether two schedulers, or two clocks, that stand in lent arrays are the same: every byte and every word, none left out, so that many are compared at
 // once. Two wheels are compared by the wheel itself.
+#![tactic(auto)]
+
 ghost use Rattle.std.specs.Prelude.{◌≡◌, ◌↔◌, true};
 ghost use Rattle.place_tables.specs.Cells.{scheduler_in};
 ghost use Rattle.place_clock.specs.Clock.{clock_in};

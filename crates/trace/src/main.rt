@@ -4,11 +4,17 @@
 //
 // A last row that is cut short counts as a row. Of a START that is refused one line is written on standard output, and OUT is not written. OUT is opened
 // when the first record is made.
+#![tactic(auto)]
+
 use calls::ROW;
-use libc::{STDERR_FILENO, STDOUT_FILENO};
-use program_files::{argument, fill, open_input, open_output, write};
+use program_files::{PATH, System, argument, argument_count, fill, open_input, open_output, write};
 use program_records::{record_of, start_named, write_record};
 use run_pieces::{BLOCK, Run};
+use std::io;
+use std::io::{Read, Write};
+
+// The bytes that the text of a piece has room in.
+const OUTPUT: usize = 65536;
 
 // How far a trace has come: the run, and whether it has ended.
 #[derive(Clone, Copy)]
@@ -18,23 +24,30 @@ struct Trace {
 }
 
 // Writes the record of a run; whether that was done.
-fn write_reached(run: Run, output: i32, out: &[u8]) -> bool {
-    write_record(record_of(run), output, out)
+fn write_reached(rt: &impl System, run: Run, output: &mut impl Write, out: &[u8]) -> bool {
+    write_record(rt, record_of(rt, run), output, out)
 }
 
 // Reads one row, or what is left of one, feeds it to the run and writes the record after it.
-fn trace_row(trace: Trace, input: i32, calls: &[u8], output: i32, out: &[u8]) -> Trace {
+fn trace_row(
+    rt: &impl System,
+    trace: Trace,
+    input: &mut impl Read,
+    calls: &[u8],
+    output: &mut impl Write,
+    out: &[u8],
+) -> Trace {
     let run = trace.run;
     let mut block = [0u8; BLOCK];
-    let filled = fill(input, calls, &mut block[..ROW]);
+    let filled = fill(rt, input, calls, &mut block[..ROW]);
     let held = filled.held;
     if filled.failed || held == 0 {
         return Trace { run, ended: true };
     }
-    let mut text = io::large_buffer();
+    let mut text = [0u8; OUTPUT];
     let fed = run.feed(&block, held, &mut text);
     let after = fed.run;
-    let is_written = write_reached(after, output, out);
+    let is_written = write_reached(rt, after, output, out);
     Trace {
         run: after,
         ended: !is_written || held < ROW,
@@ -42,76 +55,77 @@ fn trace_row(trace: Trace, input: i32, calls: &[u8], output: i32, out: &[u8]) ->
 }
 
 // A proved loop has to end, and nothing says that an input does. So the loop counts its turns down, from a number that no trace uses up.
-fn trace_rows(run: Run, input: i32, calls: &[u8], output: i32, out: &[u8]) {
+fn trace_rows(
+    rt: &impl System,
+    run: Run,
+    input: &mut impl Read,
+    calls: &[u8],
+    output: &mut impl Write,
+    out: &[u8],
+) {
     let mut trace = Trace { run, ended: false };
     let mut turns = u64::MAX;
     while turns > 0 && !trace.ended {
-        let next = trace_row(trace, input, calls, output, out);
+        let next = trace_row(rt, trace, input, calls, output, out);
         trace = next;
         turns -= 1;
     }
 }
 
 // Traces into the file that is named third.
-fn trace_into(run: Run, input: i32, calls: &[u8]) {
-    let mut path = io::buffer();
-    let word = argument(3, &mut path);
+fn trace_into(rt: &impl System, run: Run, input: &mut impl Read, calls: &[u8]) {
+    let mut path = [0u8; PATH];
+    let word = argument(rt, 3, &mut path);
     if !word.whole {
         return;
     }
     let length = word.length;
-    let first = record_of(run);
+    let first = record_of(rt, run);
     let saved = first.saved;
     if saved.answer != 0 {
         return;
     }
-    let output = open_output(&path[..length]);
-    if output < 0 {
-        return;
+    if let Some(mut output) = open_output(rt, &path[..length]) {
+        if write_record(rt, first, &mut output, &path[..length]) {
+            trace_rows(rt, run, input, calls, &mut output, &path[..length]);
+        }
     }
-    if write_record(first, output, &path[..length]) {
-        trace_rows(run, input, calls, output, &path[..length]);
-    }
-    libc::close(output);
 }
 
 // Traces the calls of the file that is named first.
-fn trace_file(run: Run) {
-    let mut path = io::buffer();
-    let word = argument(1, &mut path);
+fn trace_file(rt: &impl System, run: Run) {
+    let mut path = [0u8; PATH];
+    let word = argument(rt, 1, &mut path);
     if !word.whole {
         return;
     }
     let length = word.length;
-    let input = open_input(&path[..length]);
-    if input < 0 {
-        return;
+    if let Some(mut input) = open_input(rt, &path[..length]) {
+        trace_into(rt, run, &mut input, &path[..length]);
     }
-    trace_into(run, input, &path[..length]);
-    libc::close(input);
 }
 
 // Writes the one line of a refused run.
-fn tell(run: Run) {
-    let mut output = io::large_buffer();
+fn tell(rt: &impl System, run: Run) {
+    let mut output = [0u8; OUTPUT];
     let closed = run.close(&mut output);
     let used = closed.used;
-    write(STDOUT_FILENO, b"standard output", &output[..used]);
+    write(rt, &mut io::writer(rt), b"standard output", &output[..used]);
 }
 
-fn main() {
-    if os::arg_count() != 4 {
-        io::write_all(STDERR_FILENO, b"usage: trace CALLS START OUT\n");
+fn main(rt: HostRuntime) {
+    if argument_count(&rt) != 4 {
+        let _ = eprintln!(rt; "usage: trace CALLS START OUT");
         return;
     }
-    let start = start_named(2);
+    let start = start_named(&rt, 2);
     if !start.ready {
         return;
     }
     let run = start.run;
     if run.answer() != 0 {
-        tell(run);
+        tell(&rt, run);
         return;
     }
-    trace_file(run);
+    trace_file(&rt, run);
 }

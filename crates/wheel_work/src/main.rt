@@ -1,6 +1,7 @@
 // Counts the work of a tick of a lent wheel, the timers that it visits, with timers on the spoke that it visits, due or with a turn left, and on another.
 // The work is the number of timers on that spoke, however many hang elsewhere.
-use libc::STDOUT_FILENO;
+#![tactic(auto)]
+
 use limits::TIMERS;
 use units::Ticks;
 use wheel::{WheelWords, empty_words, start, tick};
@@ -14,31 +15,29 @@ fn start_some(wheel: &mut WheelWords, from: u8, to: u8, n: Ticks) {
     }
 }
 
-// A number and the byte after it.
-fn write_number(n: u8, after: u8) {
-    io::print_decimal(STDOUT_FILENO, n as u64);
-    let end = [after];
-    io::write_all(STDOUT_FILENO, &end);
+// A number and the character after it.
+fn write_number(rt: &impl Print, n: u8, after: char) {
+    let _ = print!(rt; "{n}{after}");
 }
 
 // A line: the timers below `due` come due at the tick, those below `on` have a turn left, those below `all` hang on another spoke.
-fn write_line(due: u8, on: u8, all: u8) {
+fn write_line(rt: &impl Print, due: u8, on: u8, all: u8) {
     let mut wheel = empty_words(0);
     start_some(&mut wheel, 0, due, Ticks(1));
     start_some(&mut wheel, due, on, Ticks(65));
     start_some(&mut wheel, on, all, Ticks(2));
     let turned = tick(&mut wheel);
-    write_number(on, b' ');
-    write_number(all, b' ');
-    write_number(turned.visits, b'\n');
+    write_number(rt, on, ' ');
+    write_number(rt, all, ' ');
+    write_number(rt, turned.visits, '\n');
 }
 
-fn main() {
-    io::write_all(STDOUT_FILENO, b"on the spoke, in all, visits\n");
-    write_line(0, 0, 0);
+fn main(rt: HostRuntime) {
+    let _ = println!(rt; "on the spoke, in all, visits");
+    write_line(&rt, 0, 0, 0);
     let mut on: u8 = 0;
     while on <= TIMERS {
-        write_line(on / 2, on, TIMERS);
+        write_line(&rt, on / 2, on, TIMERS);
         on += 1;
     }
 }
