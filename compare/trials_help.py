@@ -299,23 +299,34 @@ def other_letters(room: Path) -> bool:
 
 def prints_axioms(room: Path) -> bool:
     """axioms prints what each program assumes, and the page on trust names
-    the same ten."""
+    the same and as many; where the libraries do not stand for the prover, what
+    is called, which the page names too."""
     done = door(room, "axioms")
-    lines = done.text.decode().splitlines()
-    begins = [n for n, line in enumerate(lines) if not line.startswith(" ")]
+    text, page = done.text.decode(), TRUST.read_text("utf-8")
+    programs = dict(re.findall(r"^(\w+): (.*\n(?: .*\n)+)", text, re.M))
     names = {
-        lines[first].partition(":")[0]: [
-            line.strip() for line in lines[first + 1:after - 1]
-        ]
-        for first, after in zip(begins, [*begins[1:], len(lines)])
+        name: re.findall(r"^  ((?:libc|os)::[\w:]+)", said, re.M)
+        for name, said in programs.items()
     }
-    page = TRUST.read_text("utf-8")
-    ten = {name.rpartition("::")[2] for name in names["run"]}
+    count = re.findall(r" (\d+) functions of C", page)
+    wanted = {
+        name: "2" if name == "wheel_work" else count[0] for name in names
+    }
+    counted = all(
+        re.findall(r"\baxioms=(\d+)", said) in ([], [wanted[name]])
+        for name, said in programs.items()
+    )
+    whole = all(
+        len(names[name]) == int(wanted[name])
+        for name, said in programs.items() if " axioms\n" in said
+    )
     return (
-        done.status == 0 and done.said == b"" and len(ten) == 10
-        and names["run"] == names["trace"] == names["records"]
-        and names["wheel_work"] == ["libc::write"]
-        and all(re.search(rf"\b{name}\b", page) for name in ten)
+        done.status == 0 and done.said == b"" and len(count) == 1
+        and set(names) == {"run", "trace", "records", "wheel_work"}
+        and counted and whole and all(
+            re.search(rf"\b{each.rpartition('::')[2]}\b", page)
+            for each in [one for many in names.values() for one in many]
+        )
     )
 
 

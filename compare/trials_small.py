@@ -106,17 +106,18 @@ def builds_once(small: Small) -> bool:
 
 
 def counts_axioms(small: Small) -> bool:
-    """The axioms of a program that the prover has just proved: as many as it
-    says, beside its verdict."""
+    """The axioms of a program that the prover has just proved: as many as its
+    verdict says. This one calls them all."""
     done = small.word("axioms")
     print(done)
     first, *names, verdict = done.text.decode().splitlines()
     said = re.match(r"  logic=proved .*\baxioms=(\d+) ", verdict)
+    line = re.compile(r"  (libc|os)::[\w:]+, called$")
     return (
         (done.status, done.said) == (0, b"") and said is not None
         and first == f"run: {said.group(1)} axioms"
         and int(said.group(1)) == len(names) > 0
-        and all(re.match(r"  (libc|os)::[\w:]+$", name) for name in names)
+        and all(map(line.match, names))
     )
 
 

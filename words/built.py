@@ -2,7 +2,8 @@
 
     program(name)              the proved program, open for reading
     library(name)              the path of the proved static library
-    verdict_of(name, data)     what the prover said of a program, if known
+    verdict_of(name)           what the prover said of it, if that is known
+    ask(name, words)           has the prover say more of it
 
 `rt` leaves a program in its crate's folder, crates/NAME/out/NAME. A static
 library is that of the crate NAME_c, and has the name that C links it by in
@@ -32,7 +33,7 @@ from typing import (
     IO, Dict, Iterator, List, NamedTuple, Optional, Sequence, Union,
 )
 
-from words import elf, verdicts
+from words import verdicts
 from words.kit import kit_folder
 from words.streams import BLOCK, Trouble, complain, put
 from words.telling import telling
@@ -80,10 +81,6 @@ class Product(NamedTuple):
         """Where the prover's verdict is kept."""
         return TARGET / "door" / f"{self.crate}.verdict"
 
-    def object(self) -> Path:
-        """Where `rt` leaves the object file of a program."""
-        return self.made.with_name(f"{self.crate}.o")
-
     def is_made(self, status: int) -> bool:
         """Whether the command, which ended so, has proved and made it."""
         return self.marks[-1].is_file() and (self.is_run or status == 0)
@@ -92,7 +89,7 @@ class Product(NamedTuple):
 def program_of(name: str) -> Product:
     """A program."""
     out = CRATES / name / "out"
-    marks = (out / name, out / f"{name}.o", out / f"{name}.stamp")
+    marks = (out / name, out / f"{name}.stamp")
     return Product(name, ("rt", "run"), marks[0], marks[0], marks, True)
 
 
@@ -199,6 +196,14 @@ def is_built(product: Product, data: bytes) -> bool:
     return stamp == stamped(sources(product.crate), kit_id, data)
 
 
+def stands(product: Product) -> bool:
+    """Whether the file is the one built from these sources."""
+    file = standing(product)
+    if file is not None:
+        file.close()
+    return file is not None
+
+
 def standing(product: Product) -> Optional[IO[bytes]]:
     """The file, open, if it is the one built from these sources. Whoever
     replaces it meanwhile replaces its name, and not what is open here."""
@@ -298,14 +303,13 @@ def put_stamp(product: Product, stamp: str) -> None:
 
 
 def keep_verdict(product: Product, stamp: str, words: str) -> None:
-    """Keep what the prover said of a program, with the names that its object
-    file leaves open. Where it said nothing, only what is kept of the very
-    same file stays."""
-    line = verdicts.found(product.crate, words)
-    if line and product.object().is_file():
-        names = sorted(elf.open_names(product.object().read_bytes()))
-        verdicts.keep(product.verdict(), stamp, Verdict(line, names))
-    elif verdicts.kept(product.verdict(), stamp) is None:
+    """Keep what the prover said, unless the same is kept already with more.
+    Where it said nothing, only what is kept of the very same file stays."""
+    before = verdicts.kept(product.verdict(), stamp)
+    said = verdicts.found(words)
+    if said is not None and not (before and before.axioms):
+        verdicts.keep(product.verdict(), stamp, said)
+    elif before is None:
         with contextlib.suppress(FileNotFoundError):
             product.verdict().unlink()
 
@@ -320,8 +324,7 @@ def stamp_built(product: Product, before: str, words: str) -> IO[bytes]:
     file = product.file.open("rb")
     stamp = stamped(before, kit() or "", file.read())
     put_stamp(product, stamp)
-    if product.is_run:
-        keep_verdict(product, stamp, words)
+    keep_verdict(product, stamp, words)
     return file
 
 
@@ -375,7 +378,8 @@ def build_by(command: Sequence[str], names: Sequence[str]) -> int:
         words = gate_log().read_text("utf-8", "replace")
         try:
             for name in names if status == 0 else ():
-                stamp_built(program_of(name), before[name], words).close()
+                product, said = program_of(name), verdicts.said_of(name, words)
+                stamp_built(product, before[name], said).close()
         except OSError as error:
             raise Trouble(f"a program is not built: {error}") from error
     return status
@@ -417,10 +421,32 @@ def library(name: str) -> Path:
     return product.file
 
 
-def verdict_of(name: str, data: bytes) -> Optional[Verdict]:
-    """What the prover said of a program with these bytes, if that is known
-    for the sources as they stand."""
+def verdict_of(name: str) -> Optional[Verdict]:
+    """What the prover said of a program that is built, if that is known."""
     product = program_of(name)
-    if not is_built(product, data):
-        return None
     return verdicts.kept(product.verdict(), product.stamp().read_text("utf-8"))
+
+
+def has_libraries(name: str) -> bool:
+    """Whether the libraries below a program stand as `rt check` needs them:
+    what `rt ci` leaves of them it would prove anew."""
+    below = reached(name, listed_in(TOP))
+    places = [CRATES / crate for crate in below if crate != name]
+    return all(
+        (place / "out" / "rlib" / "stamp").is_file()
+        for place in places if place.is_dir()
+    )
+
+
+def ask(name: str, words: Sequence[str]) -> Optional[Verdict]:
+    """Have a command in a program's folder say more of it, under the lock,
+    and keep its verdict where the program is built from these sources."""
+    product = program_of(name)
+    with locked() as lock:
+        status = prove(product._replace(command=words), lock)
+        said = verdicts.found(product.log().read_text("utf-8", "replace"))
+        if status != 0 or said is None or not stands(product):
+            return None
+        stamp = product.stamp().read_text("utf-8")
+        verdicts.keep(product.verdict(), stamp, said)
+    return said

@@ -1,7 +1,6 @@
-"""Reads the names in an ELF file of 64 bits: an object file or a program.
+"""Reads the names in an ELF file of 64 bits, a program or an object file.
 
-    open_names(data)     those that the file leaves open
-    all_names(data)      all of them
+    names_in(data)     the names of all its symbols
 
 Imported by the words; it is no program.
 """
@@ -9,14 +8,14 @@ Imported by the words; it is no program.
 from __future__ import annotations
 
 import struct
-from typing import Iterator, List, NamedTuple, Set, Tuple
+from typing import Iterator, List, NamedTuple, Set
 
 # Where the header says where the sections are, their size and number; of a
-# section its kind, place, length and link; of a symbol its name and section.
+# section its kind, place, length and link; of a symbol its name.
 SECTIONS = struct.Struct("<40xQ10xHH2x")
 SECTION = struct.Struct("<4xI16xQQI20x")
-SYMBOL = struct.Struct("<IxxH16x")
-TABLES, OPEN = (2, 11), 0
+SYMBOL = struct.Struct("<I20x")
+TABLES = (2, 11)
 
 
 class Section(NamedTuple):
@@ -42,26 +41,19 @@ def text_at(data: bytes, place: int) -> str:
     return data[place:data.index(b"\0", place)].decode("ascii")
 
 
-def symbols_of(data: bytes) -> Iterator[Tuple[str, bool]]:
-    """The names of a file, each with whether it is left open."""
+def symbols_of(data: bytes) -> Iterator[str]:
+    """The names of the symbols of a file, in order."""
     sections = sections_of(data)
     for table in sections:
         if table.kind not in TABLES:
             continue
         names, end = sections[table.link].place, table.place + table.length
         for symbol in range(table.place, end, SYMBOL.size):
-            name, section = SYMBOL.unpack_from(data, symbol)
-            if name:
-                # A program's symbols may have the library's version.
-                text = text_at(data, names + name).partition("@")[0]
-                yield text, section == OPEN
+            name, = SYMBOL.unpack_from(data, symbol)
+            # One of a library may have the library's version.
+            yield text_at(data, names + name).partition("@")[0]
 
 
-def open_names(data: bytes) -> Set[str]:
-    """The names that a file leaves open."""
-    return {name for name, is_open in symbols_of(data) if is_open}
-
-
-def all_names(data: bytes) -> Set[str]:
-    """All names in a file."""
-    return {name for name, _ in symbols_of(data)}
+def names_in(data: bytes) -> Set[str]:
+    """The names of the symbols of a file."""
+    return {name for name in symbols_of(data) if name}

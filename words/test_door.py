@@ -644,32 +644,46 @@ class Native(Folder):
 class Verdicts(Folder):
     """What the prover said of a program, and what is kept of it."""
 
-    WORDS = """\
+    OWN = """\
+crate below: modules loaded=0 checked=1
+axioms os: 1 reached of the 22 declared
+  os::c::open   reached
+logic=proved functions=1 axioms=1 target=x
+crate one: modules loaded=0 checked=1
+axioms libc: 2 reached of the 128 declared
+  libc::chmod
+  libc::read   reached
+  libc::write   reached
+logic=proved functions=7 axioms=2 target=x
+"""
+    GATE = """\
 == one: its tests
-crate one: modules loaded=0 checked=2
-axioms os: none reached of the 22 declared
 logic=proved tests=1 functions=8 axioms=12 target=x
 rt: one: its tests are proved
 == one
-crate below: modules loaded=0 checked=1
-logic=proved functions=1 axioms=1 target=x
-crate one: modules loaded=0 checked=1
 axioms libc: libc::read, libc::write (2 of the 128 declared)
-logic=proved functions=7 axioms=8 target=x
+logic=proved functions=7 axioms=2 target=x
 rt: one proved
 == other
-crate other: modules loaded=0 checked=1
 logic=not-proved functions=2
+rt: other NOT PROVED
+rt: two is kept: an earlier run on this machine proved the same files
 """
 
     def test_found(self) -> None:
-        """That on the crate, not on its tests, one below or another."""
-        for crate, line in (
-            ("one", "logic=proved functions=7 axioms=8 target=x"),
-            ("below", "logic=proved functions=1 axioms=1 target=x"),
-            ("other", ""), ("on", ""),
-        ):
-            self.assertEqual(verdicts.found(crate, self.WORDS), line)
+        """The last one, with what is reached since the one before."""
+        line = "logic=proved functions=7 axioms=2 target=x"
+        listed = Verdict(line, ["libc::read", "libc::write"])
+        self.assertEqual(verdicts.found(self.OWN), listed)
+        self.assertEqual(verdicts.found(self.GATE), Verdict(line, []))
+        self.assertIsNone(verdicts.found("logic=not-proved functions=2\n"))
+
+    def test_said_of(self) -> None:
+        """What `rt ci` said of a crate that it proved itself."""
+        said = self.GATE.splitlines(True)[4:6]
+        self.assertEqual(verdicts.said_of("one", self.GATE), "".join(said))
+        for crate in ("on", "other", "two", "three"):
+            self.assertEqual(verdicts.said_of(crate, self.GATE), "")
 
     def test_kept(self) -> None:
         """For the file of its stamp, and for no other."""
