@@ -7,7 +7,7 @@ use lib.Bits.{bit_or, and_le_r}
 use lib.Count.{count_trailing_zeros}
 use Rattle.wheel.specs.Inside.{next_at, cleared, moved, turned_at, turned_in}
 use Rattle.wheel.proofs.Walk.{goes, gone, id_lt, goes_due, goes_round}
-use Rattle.wheel.proofs.Laws.{tick_promise, tick_hung, tick_order}
+use Rattle.wheel.proofs.Laws.{tick_always, tick_hung, tick_order}
 use Rattle.wheel.proofs.tick.Goals.{In-loop-rest, then-wheel-i-eq0, else-wheel-i-eq0}
 use Rattle.wheel.proofs.tick.Goals as goal
 
@@ -77,7 +77,7 @@ returns-clause-always c =
     let k = c.args.wheel.now in
     let l = c.loop-rest in
     let z : l.rest ≡ 0 = omega arith in
-    tick_promise k _ _ (ap (cleared (next_at k)) (gone _ _ _ _ _ l.invariant z) ∙ rw c.load-rest.ensures)
+    tick_always k _ _ (ap (cleared (next_at k)) (gone _ _ _ _ _ l.invariant z) ∙ rw c.load-rest.ensures)
 
 pub returns-clause-hung : goal.returns-clause-hung
 returns-clause-hung c = tick_hung c.args.wheel.now _ _ (returns-clause-always c)
