@@ -7,7 +7,7 @@ use native.Mathlib.Omega.{arith}
 use Rattle.units.specs.declared.Micros.{Micros}
 use Rattle.units.specs.declared.Ticks.{Ticks}
 use Rattle.units.specs.declared.Length.{Length}
-use Rattle.units.specs.declared.Length.TheVariants as length
+use Rattle.units.specs.declared.Length.TheVariants as lengths
 use Rattle.units.specs.declared.Length.TheVariants.{Whole}
 use Rattle.units.specs.Units.{length_of}
 use Rattle.calls.specs.declared.Answer.{Answer}
@@ -29,7 +29,7 @@ module _ (x : Engine) (id c : ℕ) (kind : Kind) (v : Micros) (ids verdict : Ver
   judgement = first_verdict (ids_verdict x.started x.timercount id x.conditions c) (delay_verdict (length_of v) (timer_of x id).state)
 
   -- out of range
-  pub start_out_of_range : (a : Answer) → l ≡ length.OutOfRange → verdict ≡ first_verdict ids OutOfRange
+  pub start_out_of_range : (a : Answer) → l ≡ lengths.OutOfRange → verdict ≡ first_verdict ids OutOfRange
       → a ≡ record { number = number_of verdict; given = 255; running = x.scheduler.running } → record { engine = x; answer = a } ≡ start_timer_model x id c kind v
   unfolding start_timer_model delay_verdict
   start_out_of_range a out told answer =

@@ -3,7 +3,7 @@
 -- Assumes nothing.
 use Rattle.std.specs.Prelude.{ℕ, ◌+◌, Bool, cond, not, ◌||◌, ◌&&◌, List, [], ◌∷◌, eqb, ltb, leb}
 use Rattle.units.specs.declared.Length.{Length}
-use Rattle.units.specs.declared.Length.TheVariants as length
+use Rattle.units.specs.declared.Length.TheVariants as lengths
 use Rattle.units.specs.declared.Length.TheVariants.{Whole}
 use Rattle.units.specs.Units.{outside}
 use Rattle.value_effects.specs.declared.Mutex.{Mutex}
@@ -59,7 +59,7 @@ start_timer_verdict state = verdict ((not (eqb state 0) ⇒ TimerRunning) ∷ []
 
 -- whether it can with a delay of this length
 unfoldable pub delay_verdict : Length → ℕ → Verdict
-delay_verdict length.OutOfRange state = OutOfRange
+delay_verdict lengths.OutOfRange state = OutOfRange
 delay_verdict (Whole n) state = start_timer_verdict state
 
 -- whether a timer of this state can stop

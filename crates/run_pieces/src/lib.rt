@@ -1,4 +1,6 @@
 // A run, fed block after block: it begins at boot or at a record, answers the rows of its blocks wherever these are cut, and ends in a record.
+#![tactic(auto)]
+
 ghost use Rattle.std.specs.Prelude.{◌≡◌, min, take};
 ghost use Rattle.run_text.specs.Texts.{collected, used_after};
 ghost use Rattle.record_bytes.specs.Loading.{load, save};
