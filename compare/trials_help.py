@@ -41,9 +41,9 @@ STEPS = (
     ("whole words", "need pycodestyle pycodestyle"),
     ("whole words", "shellcheck tehuamozo .ci/run bench/build bench/native"),
     ("whole words", "mypy --strict --cache-dir $room/mypy words compare "
-     "reference bench docs examples/wrap/make_start.py"),
+     "reference bench docs tools examples/wrap/make_start.py"),
     ("whole words", "pycodestyle words compare reference bench docs "
-     "examples"),
+     "tools examples"),
     ("whole proofs", "stamped rt ci"),
     ("edits", "locked rt must-fail"),
     ("comparisons words", "python3 -B -m words.build run trace records "

@@ -45,7 +45,7 @@ USES: Dict[str, Use] = {
         "print what the proved programs assume of the system",
     )),
     "test": Use("[--list] [PART]", (
-        "prove everything from nothing and run every comparison; or a part:",
+        "prove every crate and run every comparison; or a part of that:",
         "proofs, edits (wrong programs, which the prover must refuse),",
         "comparisons (with the second program) or words; --list names the",
         "steps and does none",
