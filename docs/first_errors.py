@@ -88,16 +88,20 @@ def errors(log: str) -> Iterator[Error]:
 def stretch_of(source: str, function: str) -> Stretch:
     """Where a function stands in its file, up to the next one; nowhere if it
     is not there."""
-    kind, first = "", 0
+    kind, first, above = "", 0, 0
     for at, line in enumerate(source.splitlines(), 1):
         block = re.match(r"impl (\w+)", line)
         kind = block.group(1) if block else kind
         begin = FUNCTION.search(line.partition("//")[0])
         if begin and first:
-            return Stretch(first, at, begin.start() + 1)
+            column = 0 if above else begin.start() + 1
+            return Stretch(first, above or at, column)
         if begin and not line[:begin.start()].strip():
             name = f"{kind}::" if begin.start() else ""
-            first = at if function == name + begin.group(1) else 0
+            first = (above or at) if function == name + begin.group(1) else 0
+        # The lines from an attribute on are the next function's.
+        attribute = line.lstrip().startswith("#[")
+        above = 0 if begin or not line else above or (at if attribute else 0)
     return Stretch(first, first and sys.maxsize, 0)
 
 

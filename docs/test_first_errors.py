@@ -18,6 +18,7 @@ from docs.first_errors import judge
 
 WRONG = Wrong("crate", "first", "gives_the_length", "stop_timer")
 WRONG_BEFORE = Wrong("crate", "first", "two_ticks", "tick")
+WRONG_EXPORTED = Wrong("crate", "first", "three", "stopped")
 DEFINITION = Wrong("crate", "first", "first", "")
 # As the prover says where it looks, at the beginning of a line.
 PROOF = "./proofs/stop_timer/Answers.antt:57:5: error: `returns`: "
@@ -33,6 +34,18 @@ fn tick() -> u8 {
 
 pub fn stop_timer() -> u8
     ensures { result ≡ 2 } { 3 / 1 } fn left_over() -> u8 {
+    2
+}
+
+#[unsafe(no_mangle)]
+pub extern "C" fn stopped() -> u8
+{
+    2
+}
+
+#[unsafe(no_mangle)]
+pub extern "C" fn started() -> u8
+{
     2
 }
 """
@@ -88,6 +101,10 @@ CASES: List[Tuple[str, Wrong, str, bool]] = [
      "note: src/lib.rt:2:5: " + UNPROVED + "\n", False),
     ("one that it made, of the function after", WRONG_BEFORE,
      "note: src/lib.rt:5:1: " + UNPROVED + "\n", False),
+    ("one that it made, at the function's attribute", WRONG_EXPORTED,
+     "note: src/lib.rt:10:1: " + UNPROVED + "\n", True),
+    ("one that it made, at the next function's attribute", WRONG_EXPORTED,
+     "note: src/lib.rt:16:1: " + UNPROVED + "\n", False),
     ("a definition", DEFINITION, LAW + "the two types differ\n", True),
     ("a definition that lacks a name", DEFINITION,
      LAW + "`old` is not in scope\n", False),
