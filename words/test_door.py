@@ -517,7 +517,8 @@ class Places(unittest.TestCase):
         trials apart."""
         files = [TOP / name for name in ("tehuamozo", ".ci/run")]
         files += [TOP / "bench" / name for name in ("build", "native")]
-        for folder in ("words", "compare", "reference", "bench", "docs"):
+        folders = "words", "compare", "reference", "bench", "docs", "tools"
+        for folder in folders:
             files += (TOP / folder).glob("*.py")
         return sorted(
             str(file.relative_to(TOP)) for file in files
