@@ -1,6 +1,7 @@
 -- What follows at all times: no ready thread stands above the running one; every thread is in exactly one place; a waiter on a condition
 -- variable that becomes ready owns its mutex.
 -- Assumes nothing.
+use Rattle.std.specs.Prelude.{Option}
 use Prim.Native.Nat.{ℕ, ◌<◌, ◌≤◌}
 use mathlib.Core.Path.{◌≡◌, refl, sym, ap, ap₂, ◌∙◌, subst}
 use mathlib.Core.Bool.{true, false, false≢true}
@@ -9,7 +10,6 @@ use native.Mathlib.Omega.{arith}
 use lib.ListN.{length}
 use Rattle.laws.proofs.Bools.{by_cases}
 use Rattle.calls.specs.declared.Call.{Call}
-use Rattle.calls.specs.declared.Decoded.{Decoded}
 use Rattle.rules.specs.Queues.{queue}
 use Rattle.rules.specs.State.{Where, running, ready, on_condition, same, waits, Thread, Rows, State, thread, mutex, tied, at, priority, set_at}
 use Rattle.rules.specs.Sound.{mem, sound}
@@ -35,7 +35,7 @@ use Rattle.book.proofs.Demand.{rows_keep}
 -- ---- no ready thread stands above the running one
 
 -- after any rows from a sound state, while started
-pub none_above_the_running : (s : State) → sound s ≡ true → (rows : List Decoded) (t : ℕ) → (final_of s rows).scheduler.rows.started ≡ true → at (final_of s rows).scheduler.rows ready t ≡ true
+pub none_above_the_running : (s : State) → sound s ≡ true → (rows : List (Option Call)) (t : ℕ) → (final_of s rows).scheduler.rows.started ≡ true → at (final_of s rows).scheduler.rows ready t ≡ true
     → priority (final_of s rows).scheduler.rows t ≤ priority (final_of s rows).scheduler.rows (runner (final_of s rows))
 none_above_the_running s e rows t on z = none_ready_above (final_of s rows) (rows_keep s e rows) on t z
 

@@ -1,6 +1,7 @@
 -- A timer set for n ticks is among those that a tick expires exactly at the nth accepted tick after its start, unless it is stopped first, and a
 -- periodic one again each time its repeat has passed since. The answer to a tick counts those that it expires, and each signals its condition variable.
 -- Assumes nothing.
+use Rattle.std.specs.Prelude.{Option, Some, None}
 use Prim.Native.Nat.{ℕ, zero, suc, ◌+◌, ◌-◌, ◌*◌, ◌<◌, ◌≤◌}
 use mathlib.Core.Path.{◌≡◌, refl, sym, ap, ap₂, ◌∙◌, subst}
 use mathlib.Core.Bool.{Bool, true, false, cond, ◌&&◌}
@@ -17,8 +18,6 @@ use Rattle.units.proofs.Lengths.{never_early}
 use Rattle.units.specs.declared.Micros.{Micros}
 use Rattle.calls.specs.declared.Call.{Call}
 use Rattle.calls.specs.declared.Call.TheVariants.{Start, CreateThread, CreateMutex, CreateCondition, CreateTimer, Acquire, Release, Wait, Signal, Broadcast, StartTimer, StopTimer, Tick}
-use Rattle.calls.specs.declared.Decoded.{Decoded}
-use Rattle.calls.specs.declared.Decoded.TheVariants.{Taken, WrongForm}
 use Rattle.calls.specs.declared.Kind.{Kind}
 use Rattle.calls.specs.declared.Kind.TheVariants.{OneShot, Periodic}
 use Rattle.calls.specs.Answers.{number_of}
@@ -127,7 +126,7 @@ effect_length s (StopTimer j) = omega (arith, length-set s.timers j stopped_time
 effect_length s Tick = omega (arith, length-map s.timers ticked)
 
 -- whether a row is an accepted tick
-abbrev ticks : State → Decoded → Bool
+abbrev ticks : State → Option Call → Bool
 ticks s row = accepts 13 row (step_decoded s row).answer
 
 module _ (s : State) (e : sound s ≡ true) (i : ℕ) (exists : i < length s.timers) (runs : goes (timer s.timers i).state ≡ true) where
@@ -145,15 +144,15 @@ module _ (s : State) (e : sound s ≡ true) (i : ℕ) (exists : i < length s.tim
       (λ p y. subst (λ (x : Stepped). i < length x.state.timers) (sym p) exists)
 
   -- a row that does not stop it ticks it, or leaves it as it is
-  row_timer : (row : Decoded) → (row ≡ Taken (StopTimer i) → ⊥) → timer (step_decoded s row).state.timers i ≡ cond (ticks s row) (ticked (timer s.timers i)) (timer s.timers i)
+  row_timer : (row : Option Call) → (row ≡ Some (StopTimer i) → ⊥) → timer (step_decoded s row).state.timers i ≡ cond (ticks s row) (ticked (timer s.timers i)) (timer s.timers i)
   unfolding step_decoded
-  row_timer WrongForm n = refl
-  row_timer (Taken call) n = call_timer call (λ z. n (ap Taken z))
+  row_timer None n = refl
+  row_timer (Some call) n = call_timer call (λ z. n (ap Some z))
 
-  row_exists : (row : Decoded) → i < length (step_decoded s row).state.timers
+  row_exists : (row : Option Call) → i < length (step_decoded s row).state.timers
   unfolding step_decoded
-  row_exists WrongForm = exists
-  row_exists (Taken call) = call_exists call
+  row_exists None = exists
+  row_exists (Some call) = call_exists call
 
 -- ---- a running timer through any number of rows
 
@@ -167,11 +166,11 @@ unfolding ticked
 ticked_fewer x l = ap (λ y. cond y (after_due x.state x) (fewer 1 x)) (ap (λ y. goes x.state && y) (ne_eqb x.left 1 (λ z. omega arith)) ∙ and_false (goes x.state))
 
 -- how many accepted ticks the rows after the first have
-abbrev ticks_after : State → Decoded → List Decoded → ℕ
+abbrev ticks_after : State → Option Call → List (Option Call) → ℕ
 ticks_after s row rows = ticks_taken rows (answers_of (step_decoded s row).state rows)
 
 -- a timer with r ticks left has one fewer for each accepted tick, until it is due
-pub timer_runs_on : (rows : List Decoded) (s : State) → sound s ≡ true → (i : ℕ) → i < length s.timers → goes (timer s.timers i).state ≡ true → NeverStops i rows
+pub timer_runs_on : (rows : List (Option Call)) (s : State) → sound s ≡ true → (i : ℕ) → i < length s.timers → goes (timer s.timers i).state ≡ true → NeverStops i rows
     → ticks_taken rows (answers_of s rows) < (timer s.timers i).left → timer (final_of s rows).timers i ≡ fewer (ticks_taken rows (answers_of s rows)) (timer s.timers i)
 unfolding final_of answers_of ticks_taken
 timer_runs_on [] s e i l r n d = λ j. record { state = x.state; condition = x.condition; length = x.length; left = all j }
@@ -214,7 +213,7 @@ unfolding ticked
 repeating_due n c = refl
 
 -- after the ticks that are left to it, a number of whole turns and k ticks more, it is k ticks past its last expiry
-pub timer_runs_again : (rows : List Decoded) (s : State) → sound s ≡ true → (i n c left : ℕ) → i < length s.timers → timer s.timers i ≡ repeating n c left → 1 ≤ left → NeverStops i rows
+pub timer_runs_again : (rows : List (Option Call)) (s : State) → sound s ≡ true → (i n c left : ℕ) → i < length s.timers → timer s.timers i ≡ repeating n c left → 1 ≤ left → NeverStops i rows
     → (turns k : ℕ) → k < n → ticks_taken rows (answers_of s rows) ≡ left + (turns * n + k) → timer (final_of s rows).timers i ≡ phase n c k
 unfolding final_of answers_of ticks_taken
 timer_runs_again [] s e i n c left l is some stops turns k less sum = absurd (omega arith)
@@ -300,7 +299,7 @@ one_left n k l = by_equal (k + 1) n
 
 module _ (s : State) (e : sound s ≡ true) (i c : ℕ) (v : Micros) where
   -- after its start, unless it is stopped first, a timer set for n ticks has one fewer left for each accepted tick, until it is due
-  pub timer_since_start : (kind : Kind) → (step s (StartTimer i c kind v)).answer.number ≡ 0 → (rows : List Decoded) → NeverStops i rows
+  pub timer_since_start : (kind : Kind) → (step s (StartTimer i c kind v)).answer.number ≡ 0 → (rows : List (Option Call)) → NeverStops i rows
       → ticks_taken rows (answers_of (step s (StartTimer i c kind v)).state rows) < ticks_in v.0
       → timer (final_of (step s (StartTimer i c kind v)).state rows).timers i ≡ fewer (ticks_taken rows (answers_of (step s (StartTimer i c kind v)).state rows)) (new_timer c kind v)
   timer_since_start kind z rows n d =
@@ -311,7 +310,7 @@ module _ (s : State) (e : sound s ≡ true) (i c : ℕ) (v : Micros) where
       (subst (λ (x : Timer). past < x.left) (sym set.1) d) ∙ ap (fewer past) set.1
 
   -- and a periodic one k accepted ticks after it last expired has its repeat less k left
-  pub timer_since_due : (step s (StartTimer i c Periodic v)).answer.number ≡ 0 → (rows : List Decoded) → NeverStops i rows
+  pub timer_since_due : (step s (StartTimer i c Periodic v)).answer.number ≡ 0 → (rows : List (Option Call)) → NeverStops i rows
       → (turns k : ℕ) → k < repeat_of (ticks_in v.0) → ticks_taken rows (answers_of (step s (StartTimer i c Periodic v)).state rows) ≡ ticks_in v.0 + (turns * repeat_of (ticks_in v.0) + k)
       → timer (final_of (step s (StartTimer i c Periodic v)).state rows).timers i ≡ phase (repeat_of (ticks_in v.0)) c k
   timer_since_due z rows n turns k less total =
@@ -320,7 +319,7 @@ module _ (s : State) (e : sound s ≡ true) (i c : ℕ) (v : Micros) where
       timer_runs_again rows t (soundness_is_kept s (StartTimer i c Periodic v) e) i (repeat_of (ticks_in v.0)) c (ticks_in v.0) set.0 set.1 (omega arith) n turns k less total
 
   -- a timer set for n ticks is among those that a tick expires at the nth accepted tick after its start, and at none before, unless it is stopped first
-  pub expires_at_its_tick : (kind : Kind) → (step s (StartTimer i c kind v)).answer.number ≡ 0 → (rows : List Decoded) → NeverStops i rows
+  pub expires_at_its_tick : (kind : Kind) → (step s (StartTimer i c kind v)).answer.number ≡ 0 → (rows : List (Option Call)) → NeverStops i rows
       → ticks_taken rows (answers_of (step s (StartTimer i c kind v)).state rows) < ticks_in v.0
       → Expires (final_of (step s (StartTimer i c kind v)).state rows) i c (eqb (ticks_taken rows (answers_of (step s (StartTimer i c kind v)).state rows) + 1) (ticks_in v.0))
   expires_at_its_tick kind z rows n d =
@@ -329,7 +328,7 @@ module _ (s : State) (e : sound s ≡ true) (i c : ℕ) (v : Micros) where
       known_expires (final_of t rows) i (fewer past (new_timer c kind v)) _ (timer_since_start kind z rows n d) (goes_kind kind) (one_left (ticks_in v.0) past d)
 
   -- so it does not expire early: a tick that comes while the whole ticks since its start last less than v microseconds does not expire it
-  pub never_expires_early : (kind : Kind) → (step s (StartTimer i c kind v)).answer.number ≡ 0 → (rows : List Decoded) → NeverStops i rows
+  pub never_expires_early : (kind : Kind) → (step s (StartTimer i c kind v)).answer.number ≡ 0 → (rows : List (Option Call)) → NeverStops i rows
       → ticks_taken rows (answers_of (step s (StartTimer i c kind v)).state rows) * 1000 < v.0
       → Expires (final_of (step s (StartTimer i c kind v)).state rows) i c false
   never_expires_early kind z rows n early =
@@ -339,7 +338,7 @@ module _ (s : State) (e : sound s ≡ true) (i c : ℕ) (v : Micros) where
       (expires_at_its_tick kind z rows n (omega (arith, few)))
 
   -- and a periodic one again its repeat later, each time, and at none between
-  pub expires_again : (step s (StartTimer i c Periodic v)).answer.number ≡ 0 → (rows : List Decoded) → NeverStops i rows
+  pub expires_again : (step s (StartTimer i c Periodic v)).answer.number ≡ 0 → (rows : List (Option Call)) → NeverStops i rows
       → (turns k : ℕ) → k < repeat_of (ticks_in v.0) → ticks_taken rows (answers_of (step s (StartTimer i c Periodic v)).state rows) ≡ ticks_in v.0 + (turns * repeat_of (ticks_in v.0) + k)
       → Expires (final_of (step s (StartTimer i c Periodic v)).state rows) i c (eqb (k + 1) (repeat_of (ticks_in v.0)))
   expires_again z rows n turns k less total =

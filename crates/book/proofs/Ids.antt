@@ -1,6 +1,7 @@
 -- Ids are given in order and never again: the accepted calls that create in one table give one number after the other, from the number of those
 -- that are there at the beginning.
 -- Assumes nothing.
+use Rattle.std.specs.Prelude.{Option, Some, None}
 use Prim.Native.Nat.{ℕ, suc, ◌+◌, ◌<◌, ◌≤◌}
 use mathlib.Core.Path.{◌≡◌, refl, sym, ap, ap₂, ◌∙◌, subst}
 use mathlib.Core.Bool.{Bool, true, false, cond, ◌&&◌, false≢true}
@@ -14,8 +15,6 @@ use Rattle.laws.proofs.Bools.{no_way, and-true, and_false, cond_false}
 use Rattle.units.specs.Units.{ticks_in}
 use Rattle.calls.specs.declared.Call.{Call}
 use Rattle.calls.specs.declared.Call.TheVariants.{Start, CreateThread, CreateMutex, CreateCondition, CreateTimer, Acquire, Release, Wait, Signal, Broadcast, StartTimer, StopTimer, Tick}
-use Rattle.calls.specs.declared.Decoded.{Decoded}
-use Rattle.calls.specs.declared.Decoded.TheVariants.{Taken, WrongForm}
 use Rattle.rules.specs.State.{ready, Thread, Timer, Rows, Scheduler, State, stopped_timer, with_threads, with_rows}
 use Rattle.rules.specs.Next.{choose_next}
 use Rattle.rules.specs.Effects.{started_timer, ticked, thread_created, mutex_created, condition_created, due_conditions, with_scheduler, with_timers, effect, given}
@@ -198,31 +197,31 @@ created_id x s (StopTimer i) e = no_table x 12 (inr (omega arith)) e
 created_id x s Tick e = no_table x 13 (inr (omega arith)) e
 
 -- what a row does to a table: nothing, or it gives the next id and the table is one longer
-record Grows (x : Table) (s : State) (row : Decoded) (r : Stepped) : Type 0 where
+record Grows (x : Table) (s : State) (row : Option Call) (r : Stepped) : Type 0 where
   pub larger : size x r.state ≡ cond (accepts (creator x) row r.answer) (suc (size x s)) (size x s)
   pub id : accepts (creator x) row r.answer ≡ true → r.answer.given ≡ size x s
 
-call_grows : (x : Table) (s : State) → sound s ≡ true → (call : Call) → Grows x s (Taken call) (step s call)
+call_grows : (x : Table) (s : State) → sound s ≡ true → (call : Call) → Grows x s (Some call) (step s call)
 call_grows x s e call = by_answer s e call
-    (λ p c. subst (λ (r : Stepped). Grows x s (Taken call) r) (sym p) (record {
+    (λ p c. subst (λ (r : Stepped). Grows x s (Some call) r) (sym p) (record {
       larger = after_size x s call ∙ (unfold grown in ap (λ y. cond y (suc (size x s)) (size x s)) (sym (and-true (eqb (call_number call) (creator x)))));
       id = λ y. created_id x s call (sym (and-true (eqb (call_number call) (creator x))) ∙ y);
     }))
     (λ p y. let none = ap (λ z. eqb (call_number call) (creator x) && z) y ∙ and_false (eqb (call_number call) (creator x)) in
-    subst (λ (r : Stepped). Grows x s (Taken call) r) (sym p) (record {
+    subst (λ (r : Stepped). Grows x s (Some call) r) (sym p) (record {
       larger = sym (ap (λ z. cond z (suc (size x s)) (size x s)) none);
       id = λ z. no_way _ z none;
     }))
 
-row_grows : (x : Table) (s : State) → sound s ≡ true → (row : Decoded) → Grows x s row (step_decoded s row)
+row_grows : (x : Table) (s : State) → sound s ≡ true → (row : Option Call) → Grows x s row (step_decoded s row)
 unfolding step_decoded
-row_grows x s e WrongForm = record { larger = refl; id = λ z. absurd (false≢true z) }
-row_grows x s e (Taken call) = call_grows x s e call
+row_grows x s e None = record { larger = refl; id = λ z. absurd (false≢true z) }
+row_grows x s e (Some call) = call_grows x s e call
 
 -- ---- any number of rows
 
 -- the ids given for a table are the numbers from its size on, one after the other, and as many as it has grown by
-pub ids_in_order : (x : Table) (rows : List Decoded) (s : State) → sound s ≡ true
+pub ids_in_order : (x : Table) (rows : List (Option Call)) (s : State) → sound s ≡ true
     → (ids_given x rows (answers_of s rows) ≡ up_from (size x s) (length (ids_given x rows (answers_of s rows)))) × (size x (final_of s rows) ≡ size x s + length (ids_given x rows (answers_of s rows)))
 unfolding ids_given answers_of final_of up_from
 ids_in_order x [] s e = (refl, omega arith)

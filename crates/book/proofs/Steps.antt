@@ -1,5 +1,6 @@
 -- One row: from the same state and book the answers are equal, and the state and the book that follow are the same.
 -- Assumes nothing.
+use Rattle.std.specs.Prelude.{Option, Some, None}
 use Prim.Native.Nat.{◌%◌}
 use mathlib.Core.Path.{◌≡◌, refl, sym, ap, ap₂, ◌∙◌, subst}
 use mathlib.Core.Bool.{Bool, true, false, cond}
@@ -9,8 +10,6 @@ use borrow.Author.Tests.{eqb-true}
 use Rattle.laws.proofs.Bools.{by_cases, cond_true, cond_false}
 use Rattle.calls.specs.declared.Call.{Call}
 use Rattle.calls.specs.declared.Call.TheVariants.{Start, CreateThread, CreateMutex, CreateCondition, CreateTimer, Acquire, Release, Wait, Signal, Broadcast, StartTimer, StopTimer, Tick}
-use Rattle.calls.specs.declared.Decoded.{Decoded}
-use Rattle.calls.specs.declared.Decoded.TheVariants.{Taken, WrongForm}
 use Rattle.calls.specs.declared.Verdict.TheVariants.{Done}
 use Rattle.calls.specs.Answers.{number_of, nothing}
 use Rattle.rules.specs.State.{State}
@@ -106,10 +105,10 @@ module _ {s : State} {b : Book} (o : Sound s) (x : Same s b) (call : Call) where
 
 -- ---- one row
 
-pub row_agree : (s : State) (b : Book) → sound s ≡ true → Same s b → (row : Decoded) → Agree (step_decoded s row) (turn_of b row)
+pub row_agree : (s : State) (b : Book) → sound s ≡ true → Same s b → (row : Option Call) → Agree (step_decoded s row) (turn_of b row)
 unfolding step_decoded turn_of
-row_agree s b e x WrongForm = record {
+row_agree s b e x None = record {
   answer = λ i. record { number = 17; given = 255; running = (cond_true (sound s) (runner s) 255 e ∙ same_running x (sound_facts s e)) i };
   same = x;
 }
-row_agree s b e x (Taken call) = rw (sound_steps s call e) (call_agree (sound_facts s e) x call)
+row_agree s b e x (Some call) = rw (sound_steps s call e) (call_agree (sound_facts s e) x call)

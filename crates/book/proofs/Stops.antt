@@ -1,6 +1,7 @@
 -- What a stop gives: a stop of a running timer is done and gives what was left to it, 1 to 65,535 ticks. Of a timer set for n ticks that is n less the
 -- accepted ticks since its start, and of a periodic one that has expired its repeat less those since it last did.
 -- Assumes nothing.
+use Rattle.std.specs.Prelude.{Option}
 use Prim.Native.Nat.{ℕ, ◌-◌, ◌+◌, ◌*◌, ◌<◌, ◌≤◌}
 use mathlib.Core.Path.{◌≡◌, refl, sym, ap, ◌∙◌, subst}
 use mathlib.Core.Bool.{true}
@@ -13,7 +14,7 @@ use Rattle.laws.proofs.Lists.{by_below}
 use Rattle.units.specs.Units.{ticks_in, repeat_of}
 use Rattle.units.specs.declared.Micros.{Micros}
 use Rattle.calls.specs.declared.Call.TheVariants.{StartTimer, StopTimer}
-use Rattle.calls.specs.declared.Decoded.{Decoded}
+use Rattle.calls.specs.declared.Call.{Call}
 use Rattle.calls.specs.declared.Kind.{Kind}
 use Rattle.calls.specs.declared.Kind.TheVariants.{Periodic}
 use Rattle.calls.specs.declared.Verdict.TheVariants.{Done}
@@ -85,7 +86,7 @@ known_stop_gives s e i x is runs =
 -- ---- a stop after any number of rows
 
 -- of a timer that runs in a sound state, such as a loaded one: what was left to it then, less the accepted ticks since, until it is due
-pub stop_gives_what_is_left : (s : State) → sound s ≡ true → (i : ℕ) → goes (timer s.timers i).state ≡ true → (rows : List Decoded) → NeverStops i rows
+pub stop_gives_what_is_left : (s : State) → sound s ≡ true → (i : ℕ) → goes (timer s.timers i).state ≡ true → (rows : List (Option Call)) → NeverStops i rows
     → ticks_taken rows (answers_of s rows) < (timer s.timers i).left
     → GivesTicks (step (final_of s rows) (StopTimer i)).answer ((timer s.timers i).left - ticks_taken rows (answers_of s rows))
 stop_gives_what_is_left s e i runs rows never few =
@@ -93,7 +94,7 @@ stop_gives_what_is_left s e i runs rows never few =
     (timer_runs_on rows s e i (exists s e i runs) runs never few) runs
 
 -- of a periodic one that keeps n: once the ticks that are left to it there have passed, n less the accepted ticks since it last expired
-pub periodic_stop_gives : (s : State) → sound s ≡ true → (i n c left : ℕ) → timer s.timers i ≡ repeating n c left → (rows : List Decoded) → NeverStops i rows
+pub periodic_stop_gives : (s : State) → sound s ≡ true → (i n c left : ℕ) → timer s.timers i ≡ repeating n c left → (rows : List (Option Call)) → NeverStops i rows
     → (turns k : ℕ) → k < n → ticks_taken rows (answers_of s rows) ≡ left + (turns * n + k) → GivesTicks (step (final_of s rows) (StopTimer i)).answer (n - k)
 periodic_stop_gives s e i n c left is rows never turns k less total =
     let runs = ap (λ (x : Timer). goes x.state) is in
@@ -102,7 +103,7 @@ periodic_stop_gives s e i n c left is rows never turns k less total =
 
 module _ (s : State) (e : sound s ≡ true) (i c : ℕ) (v : Micros) where
   -- of a timer set for n ticks: n less the accepted ticks since its start, until it is due
-  pub stop_gives_length_less_ticks : (kind : Kind) → (step s (StartTimer i c kind v)).answer.number ≡ 0 → (rows : List Decoded) → NeverStops i rows
+  pub stop_gives_length_less_ticks : (kind : Kind) → (step s (StartTimer i c kind v)).answer.number ≡ 0 → (rows : List (Option Call)) → NeverStops i rows
       → ticks_taken rows (answers_of (step s (StartTimer i c kind v)).state rows) < ticks_in v.0
       → GivesTicks (step (final_of (step s (StartTimer i c kind v)).state rows) (StopTimer i)).answer (ticks_in v.0 - ticks_taken rows (answers_of (step s (StartTimer i c kind v)).state rows))
   stop_gives_length_less_ticks kind z rows never few =
@@ -111,7 +112,7 @@ module _ (s : State) (e : sound s ≡ true) (i c : ℕ) (v : Micros) where
       (timer_since_start s e i c v kind z rows never few) (goes_kind kind)
 
   -- of a periodic one: its repeat less the accepted ticks since it last expired
-  pub stop_gives_since_last_expiry : (step s (StartTimer i c Periodic v)).answer.number ≡ 0 → (rows : List Decoded) → NeverStops i rows
+  pub stop_gives_since_last_expiry : (step s (StartTimer i c Periodic v)).answer.number ≡ 0 → (rows : List (Option Call)) → NeverStops i rows
       → (turns k : ℕ) → k < repeat_of (ticks_in v.0) → ticks_taken rows (answers_of (step s (StartTimer i c Periodic v)).state rows) ≡ ticks_in v.0 + (turns * repeat_of (ticks_in v.0) + k)
       → GivesTicks (step (final_of (step s (StartTimer i c Periodic v)).state rows) (StopTimer i)).answer (repeat_of (ticks_in v.0) - k)
   stop_gives_since_last_expiry z rows never turns k less total =

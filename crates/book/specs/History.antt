@@ -1,11 +1,10 @@
 -- What a run of calls and their answers tells: the accepted ticks, the ids that were given; which timers a tick expires, and what a stop gives.
 -- Assumes nothing.
+use Rattle.std.specs.Prelude.{Option, Some, None}
 use Rattle.std.specs.Prelude.{ℕ, zero, suc, ◌+◌, ◌-◌, ◌≡◌, Bool, false, cond, ◌&&◌, List, [], ◌∷◌, map, length, eqb}
 use Rattle.calls.specs.declared.Answer.{Answer}
 use Rattle.calls.specs.declared.Call.{Call}
 use Rattle.calls.specs.declared.Call.TheVariants.{Start, CreateThread, CreateMutex, CreateCondition, CreateTimer, Acquire, Release, Wait, Signal, Broadcast, StartTimer, StopTimer, Tick}
-use Rattle.calls.specs.declared.Decoded.{Decoded}
-use Rattle.calls.specs.declared.Decoded.TheVariants.{Taken, WrongForm}
 use Rattle.rules.specs.State.{periodic, State, Timer, timer}
 use Rattle.rules.specs.Effects.{is_due, signalled_each, effect}
 use Rattle.rules.specs.Sound.{mem}
@@ -30,22 +29,22 @@ call_number (StopTimer i) = 12
 call_number Tick = 13
 
 -- whether a row is an accepted call of this number
-abbrev pub accepts : ℕ → Decoded → Answer → Bool
-accepts n WrongForm answer = false
-accepts n (Taken call) answer = eqb (call_number call) n && eqb answer.number 0
+abbrev pub accepts : ℕ → Option Call → Answer → Bool
+accepts n None answer = false
+accepts n (Some call) answer = eqb (call_number call) n && eqb answer.number 0
 
 -- ---- ticks and timers
 
 -- how many accepted ticks there are among some rows and their answers
-unfoldable pub ticks_taken : List Decoded → List Answer → ℕ
+unfoldable pub ticks_taken : List (Option Call) → List Answer → ℕ
 ticks_taken [] answers = 0
 ticks_taken (row ∷ rows) [] = 0
 ticks_taken (row ∷ rows) (answer ∷ answers) = cond (accepts 13 row answer) 1 0 + ticks_taken rows answers
 
 -- no row stops timer i
-abbrev pub NeverStops : ℕ → List Decoded → Type 0
+abbrev pub NeverStops : ℕ → List (Option Call) → Type 0
 NeverStops i [] = Unit {0}
-NeverStops i (row ∷ rows) = (row ≡ Taken (StopTimer i) → ⊥) × NeverStops i rows
+NeverStops i (row ∷ rows) = (row ≡ Some (StopTimer i) → ⊥) × NeverStops i rows
 
 -- the ids of the timers of a list that are due at the next tick, in order, where the first has id i
 unfoldable pub due_from : ℕ → List Timer → List ℕ
@@ -100,7 +99,7 @@ size conditions s = length s.scheduler.rows.ties
 size timers s = length s.timers
 
 -- the ids that were given for a table, in order
-unfoldable pub ids_given : Table → List Decoded → List Answer → List ℕ
+unfoldable pub ids_given : Table → List (Option Call) → List Answer → List ℕ
 ids_given x [] answers = []
 ids_given x (row ∷ rows) [] = []
 ids_given x (row ∷ rows) (answer ∷ answers) = cond (accepts (creator x) row answer) (answer.given ∷ ids_given x rows answers) (ids_given x rows answers)

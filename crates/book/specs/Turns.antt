@@ -1,5 +1,6 @@
 -- The thirteen calls on the plain book, from document 01: when each is refused, what it does, and the rule of three at its end.
 -- Assumes nothing.
+use Rattle.std.specs.Prelude.{Option, Some, None}
 use Rattle.std.specs.Prelude.{ℕ, zero, suc, ◌+◌, ◌-◌, Bool, true, false, cond, not, ◌&&◌, ◌||◌, List, [], ◌∷◌, ◌++◌, length, set, eqb, ltb, leb, pos}
 use Rattle.units.specs.Units.{outside, ticks_in, repeat_of, too_long}
 use Rattle.calls.specs.declared.Call.{Call}
@@ -8,8 +9,6 @@ use Rattle.calls.specs.declared.Kind.{Kind}
 use Rattle.calls.specs.declared.Kind.TheVariants.{OneShot, Periodic}
 use Rattle.calls.specs.declared.Verdict.{Verdict}
 use Rattle.calls.specs.declared.Verdict.TheVariants.{Done, Stopped, AlreadyStarted, NoSuchId, IdleCaller, OutOfRange, TableFull, AboveCeiling, NotOwner, CountFull, HoldingMore, TiedElsewhere, TimerRunning, TimerStopped, WrongRow}
-use Rattle.calls.specs.declared.Decoded.{Decoded}
-use Rattle.calls.specs.declared.Decoded.TheVariants.{Taken, WrongForm}
 use Rattle.calls.specs.declared.Answer.{Answer}
 use Rattle.calls.specs.Answers.{number_of, nothing}
 use Rattle.rules.specs.State.{running, ready, for_mutex, on_condition, Mutex, TimerState, stopped, one_shot, periodic}
@@ -239,16 +238,16 @@ turn b call =
     cond (eqb (number_of v) 0) (answered Done o.given (run_next (is_tick call) o.book)) (answered v nothing b)
 
 -- a row taken apart: one of wrong form is answered 17
-unfoldable pub turn_of : Book → Decoded → Turn
-turn_of b (Taken call) = turn b call
-turn_of b WrongForm = answered WrongRow nothing b
+unfoldable pub turn_of : Book → Option Call → Turn
+turn_of b (Some call) = turn b call
+turn_of b None = answered WrongRow nothing b
 
 -- the answers to any number of calls and rows of wrong form
-unfoldable pub book_answers : Book → List Decoded → List Answer
+unfoldable pub book_answers : Book → List (Option Call) → List Answer
 book_answers b [] = []
 book_answers b (row ∷ rows) = (turn_of b row).answer ∷ book_answers (turn_of b row).book rows
 
 -- the book after them
-unfoldable pub book_final : Book → List Decoded → Book
+unfoldable pub book_final : Book → List (Option Call) → Book
 book_final b [] = b
 book_final b (row ∷ rows) = book_final (turn_of b row).book rows

@@ -1,5 +1,6 @@
 -- Every call is the decoding of some row: the row of a call is 8 bytes, and is taken apart into that call.
 -- Assumes nothing.
+use Rattle.std.specs.Prelude.{Some}
 use Prim.Native.Nat.{ℕ, zero, suc, ◌/◌, ◌%◌, ◌<◌}
 use mathlib.Core.Path.{◌≡◌, refl, ap}
 use mathlib.Core.List.{List, [], ◌∷◌}
@@ -7,7 +8,6 @@ use native.Mathlib.Omega.{arith}
 use lib.ListN.{get_or}
 use Rattle.calls.specs.declared.Call.{Call}
 use Rattle.calls.specs.declared.Call.TheVariants.{Start, CreateThread, CreateMutex, CreateCondition, CreateTimer, Acquire, Release, Wait, Signal, Broadcast, StartTimer, StopTimer, Tick}
-use Rattle.calls.specs.declared.Decoded.TheVariants.{Taken}
 use Rattle.calls.specs.declared.Kind.{Kind}
 use Rattle.calls.specs.declared.Kind.TheVariants.{OneShot, Periodic}
 use Rattle.calls.specs.Rows.{v_of, fits, taken, kind_of, by_code, decoded}
@@ -43,13 +43,13 @@ v_again : (code a b kind v : ℕ) → v_of (row_with code a b kind v) ≡ v
 v_again code a b kind v = omega arith
 
 -- a start of a timer names all fields
-start_again : (i c : ℕ) (kind : Kind) (v : ℕ) → decoded (row_with 11 i c (kind_number kind) v) ≡ Taken (StartTimer i c kind (record { 0 = v }))
+start_again : (i c : ℕ) (kind : Kind) (v : ℕ) → decoded (row_with 11 i c (kind_number kind) v) ≡ Some (StartTimer i c kind (record { 0 = v }))
 unfolding decoded by_code taken fits kind_of
-start_again i c OneShot v = ap (λ n. Taken (StartTimer i c OneShot (record { 0 = n }))) (v_again 11 i c 0 v)
-start_again i c Periodic v = ap (λ n. Taken (StartTimer i c Periodic (record { 0 = n }))) (v_again 11 i c 1 v)
+start_again i c OneShot v = ap (λ n. Some (StartTimer i c OneShot (record { 0 = n }))) (v_again 11 i c 0 v)
+start_again i c Periodic v = ap (λ n. Some (StartTimer i c Periodic (record { 0 = n }))) (v_again 11 i c 1 v)
 
 -- the row of a call is taken apart into that call
-pub decoded_again : (call : Call) → decoded (row_of call) ≡ Taken call
+pub decoded_again : (call : Call) → decoded (row_of call) ≡ Some call
 unfolding decoded by_code taken fits row_of
 decoded_again Start = refl
 decoded_again (CreateThread base) = refl
@@ -87,5 +87,5 @@ call_row (StopTimer i) r = row_bytes 12 i 0 0 0 (omega arith) r (omega arith) (o
 call_row Tick r = row_bytes 13 0 0 0 0 (omega arith) (omega arith) (omega arith) (omega arith) (omega arith)
 
 -- every call is the decoding of some row
-pub every_call_has_a_row : (call : Call) → InRange call → (row : List ℕ) × IsRow row × (decoded row ≡ Taken call)
+pub every_call_has_a_row : (call : Call) → InRange call → (row : List ℕ) × IsRow row × (decoded row ≡ Some call)
 every_call_has_a_row call r = (row_of call, call_row call r, decoded_again call)

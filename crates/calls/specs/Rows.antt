@@ -1,13 +1,12 @@
 -- A call row: 8 bytes, code, a, b, kind, and a 32-bit number v, low byte first. When it is of right form, and which call it is then.
 -- Assumes nothing.
+use Rattle.std.specs.Prelude.{Option, Some, None}
 use Rattle.std.specs.Prelude.{ℕ, ◌+◌, ◌*◌, Bool, true, false, cond, ◌&&◌, ◌||◌, List, [], ◌∷◌, get_or, eqb, leb}
 use Rattle.calls.specs.declared.Call.{Call}
 use Rattle.calls.specs.declared.Call.TheVariants.{Start, CreateThread, CreateMutex, CreateCondition, CreateTimer, Acquire, Release, Wait, Signal, Broadcast, StartTimer, StopTimer, Tick}
 use Rattle.calls.specs.declared.Kind.{Kind}
 use Rattle.calls.specs.declared.Kind.TheVariants.{OneShot, Periodic}
 use Rattle.calls.specs.declared.Named.{Named}
-use Rattle.calls.specs.declared.Decoded.{Decoded}
-use Rattle.calls.specs.declared.Decoded.TheVariants.{Taken, WrongForm}
 
 -- the byte at place i of a row
 abbrev pub byte : List ℕ → ℕ → ℕ
@@ -40,17 +39,17 @@ fits n row =
     && (n.v || eqb (v_of row) 0)
 
 -- the call, if the fields that it does not name are 0
-unfoldable pub taken : Named → Call → List ℕ → Decoded
-taken n call row = cond (fits n row) (Taken call) WrongForm
+unfoldable pub taken : Named → Call → List ℕ → Option Call
+taken n call row = cond (fits n row) (Some call) None
 
 -- kind 0 one-shot or 1 periodic
 unfoldable pub kind_of : ℕ → Kind
 kind_of k = cond (eqb k 0) OneShot Periodic
 
 -- the call of each code from 0, with its fields; 0 is no code
-unfoldable pub by_code : List ℕ → List Decoded
+unfoldable pub by_code : List ℕ → List (Option Call)
 by_code row =
-    WrongForm
+    None
     ∷ taken names_none Start row
     ∷ taken names_a (CreateThread (byte row 1)) row
     ∷ taken names_a (CreateMutex (byte row 1)) row
@@ -67,5 +66,5 @@ by_code row =
     ∷ []
 
 -- a row taken apart: code not 1 to 13, an unused field not 0 and kind above 1 are of wrong form, and nothing else is
-unfoldable pub decoded : List ℕ → Decoded
-decoded row = get_or (by_code row) (byte row 0) WrongForm
+unfoldable pub decoded : List ℕ → Option Call
+decoded row = get_or (by_code row) (byte row 0) None

@@ -1,9 +1,8 @@
 // The thirteen calls, a row of 8 bytes taken apart into its call, and the answers with document 01's numbers.
-ghost use Rattle.std.specs.Prelude.{◌≡◌, ◌||◌, ◌<◌, eqb};
+ghost use Rattle.std.specs.Prelude.{◌≡◌};
 ghost use Rattle.calls.specs.Answers.{number_of};
-ghost use Rattle.calls.specs.Rows.{fits, taken, kind_of, v_of, decoded, names_none, names_a, names_ab, names_all};
+ghost use Rattle.calls.specs.Rows.{fits, taken, kind_of, v_of, decoded};
 
-use choice::both;
 use units::Micros;
 
 // The bytes of a row.
@@ -11,15 +10,6 @@ pub const ROW: usize = 8;
 
 // A row, not yet taken apart.
 pub type Row = [u8; ROW];
-
-// What the second byte of a number counts.
-const SECOND: u32 = 256;
-
-// What the third byte counts.
-const THIRD: u32 = 65536;
-
-// What the fourth byte counts.
-const FOURTH: u32 = 16777216;
 
 // One-shot or periodic.
 #[derive(Clone, Copy)]
@@ -44,13 +34,6 @@ pub enum Call {
     StartTimer(u8, u8, Kind, Micros),
     StopTimer(u8),
     Tick,
-}
-
-// What a row of 8 bytes is: a call, or of wrong form.
-#[derive(Clone, Copy)]
-pub enum Decoded {
-    Taken(Call),
-    WrongForm,
 }
 
 // Why an answer is as it is, in the order of document 01's numbers from 0.
@@ -119,57 +102,60 @@ pub fn number(verdict: Verdict) -> u8
     }
 }
 
-// A byte, as a number of 32 bits.
-fn wide(x: u8) -> u32
-    ensures { (result ≡ x) × (result < 256) }
-{
-    x as u32
-}
+// A call that names no field.
+const NAMES_NONE: Named = Named {
+    a: false,
+    b: false,
+    kind: false,
+    v: false,
+};
+
+// A call that names a.
+const NAMES_A: Named = Named {
+    a: true,
+    ..NAMES_NONE
+};
+
+// A call that names a and b.
+const NAMES_AB: Named = Named { b: true, ..NAMES_A };
+
+// A call that names a, b, kind and v.
+const NAMES_ALL: Named = Named {
+    a: true,
+    b: true,
+    kind: true,
+    v: true,
+};
 
 // The number v of a row, low byte first.
 fn number_of_row(row: Row) -> u32
     ensures { result ≡ v_of row }
 {
-    let first = wide(row[4]);
-    let second = wide(row[5]);
-    let third = wide(row[6]);
-    let fourth = wide(row[7]);
-    first + second * SECOND + third * THIRD + fourth * FOURTH
-}
-
-// Whether a field is named or 0.
-fn named_or_zero(named: bool, field: u32) -> bool
-    ensures { result ≡ (named || eqb field 0) }
-{
-    if named {
-        return true;
-    }
-    field == 0
+    u32::from_le_bytes([row[4], row[5], row[6], row[7]])
 }
 
 // Whether the fields that are not named are 0, and kind is 0 or 1.
+#[tactic(auto, unfolding(crate::specs::Rows::fits))]
 fn fits(named: Named, row: Row) -> bool
     ensures { result ≡ fits named row }
 {
-    let a = named_or_zero(named.a, wide(row[1]));
-    let b = named_or_zero(named.b, wide(row[2]));
-    let kind = named_or_zero(named.kind, wide(row[3]));
-    let v = named_or_zero(named.v, number_of_row(row));
-    both(both(both(both(a, b), kind), row[3] <= 1), v)
+    (named.a || row[1] == 0)
+        && (named.b || row[2] == 0)
+        && (named.kind || row[3] == 0)
+        && row[3] <= 1
+        && (named.v || number_of_row(row) == 0)
 }
 
 // The call, if the fields that it does not name are 0.
-fn taken(named: Named, call: Call, row: Row) -> Decoded
+#[tactic(auto, unfolding(crate::specs::Rows::taken))]
+fn taken(named: Named, call: Call, row: Row) -> Option<Call>
     ensures { result ≡ taken named call row }
 {
-    if fits(named, row) {
-        Decoded::Taken(call)
-    } else {
-        Decoded::WrongForm
-    }
+    if fits(named, row) { Some(call) } else { None }
 }
 
 // Kind 0 one-shot or 1 periodic.
+#[tactic(auto, unfolding(crate::specs::Rows::kind_of))]
 fn kind_of(kind: u8) -> Kind
     ensures { result ≡ kind_of kind }
 {
@@ -180,83 +166,29 @@ fn kind_of(kind: u8) -> Kind
     }
 }
 
-// A call that names no field.
-fn naming_none(call: Call, row: Row) -> Decoded
-    ensures { result ≡ taken names_none call row }
-{
-    let named = Named {
-        a: false,
-        b: false,
-        kind: false,
-        v: false,
-    };
-    taken(named, call, row)
-}
-
-// A call that names a.
-fn naming_a(call: Call, row: Row) -> Decoded
-    ensures { result ≡ taken names_a call row }
-{
-    let named = Named {
-        a: true,
-        b: false,
-        kind: false,
-        v: false,
-    };
-    taken(named, call, row)
-}
-
-// A call that names a and b.
-fn naming_ab(call: Call, row: Row) -> Decoded
-    ensures { result ≡ taken names_ab call row }
-{
-    let named = Named {
-        a: true,
-        b: true,
-        kind: false,
-        v: false,
-    };
-    taken(named, call, row)
-}
-
-// A call that names a, b, kind and v.
-fn naming_all(call: Call, row: Row) -> Decoded
-    ensures { result ≡ taken names_all call row }
-{
-    let named = Named {
-        a: true,
-        b: true,
-        kind: true,
-        v: true,
-    };
-    taken(named, call, row)
-}
-
-// A row taken apart.
-pub fn decode(row: Row) -> Decoded
+// A row taken apart: its call, or none where it is of wrong form.
+#[tactic(auto, unfolding(crate::specs::Rows::decoded, crate::specs::Rows::by_code))]
+pub fn decode(row: Row) -> Option<Call>
     ensures { result ≡ decoded row }
 {
-    let code = row[0];
-    let a = row[1];
-    let b = row[2];
+    let [code, a, b, kind, ..] = row;
     match code {
-        1 => naming_none(Call::Start, row),
-        2 => naming_a(Call::CreateThread(a), row),
-        3 => naming_a(Call::CreateMutex(a), row),
-        4 => naming_none(Call::CreateCondition, row),
-        5 => naming_none(Call::CreateTimer, row),
-        6 => naming_a(Call::Acquire(a), row),
-        7 => naming_a(Call::Release(a), row),
-        8 => naming_ab(Call::Wait(a, b), row),
-        9 => naming_a(Call::Signal(a), row),
-        10 => naming_a(Call::Broadcast(a), row),
+        1 => taken(NAMES_NONE, Call::Start, row),
+        2 => taken(NAMES_A, Call::CreateThread(a), row),
+        3 => taken(NAMES_A, Call::CreateMutex(a), row),
+        4 => taken(NAMES_NONE, Call::CreateCondition, row),
+        5 => taken(NAMES_NONE, Call::CreateTimer, row),
+        6 => taken(NAMES_A, Call::Acquire(a), row),
+        7 => taken(NAMES_A, Call::Release(a), row),
+        8 => taken(NAMES_AB, Call::Wait(a, b), row),
+        9 => taken(NAMES_A, Call::Signal(a), row),
+        10 => taken(NAMES_A, Call::Broadcast(a), row),
         11 => {
-            let kind = kind_of(row[3]);
-            let v = number_of_row(row);
-            naming_all(Call::StartTimer(a, b, kind, Micros(v)), row)
+            let v = Micros(number_of_row(row));
+            taken(NAMES_ALL, Call::StartTimer(a, b, kind_of(kind), v), row)
         }
-        12 => naming_a(Call::StopTimer(a), row),
-        13 => naming_none(Call::Tick, row),
-        _ => Decoded::WrongForm,
+        12 => taken(NAMES_A, Call::StopTimer(a), row),
+        13 => taken(NAMES_NONE, Call::Tick, row),
+        _ => None,
     }
 }

@@ -1,6 +1,7 @@
 -- Demand 3 for the code: from boot or a record that loads, through any number of calls and rows, whatever the promises of the code allow, the answers
 -- and the saved record equal those of the plain book; and there is something that they allow.
 -- Assumes nothing.
+use Rattle.std.specs.Prelude.{Option}
 use Prim.Native.Nat.{ℕ, suc, ◌≤◌}
 use mathlib.Core.Path.{◌≡◌, refl, sym, ap, ap₂, ◌∙◌, subst}
 use mathlib.Core.Bool.{true}
@@ -8,7 +9,7 @@ use mathlib.Core.List.{List, [], ◌∷◌, ◌++◌}
 use native.Mathlib.Omega.{arith}
 use lib.ListN.{length, drop}
 use Rattle.calls.specs.declared.Answer.{Answer}
-use Rattle.calls.specs.declared.Decoded.{Decoded}
+use Rattle.calls.specs.declared.Call.{Call}
 use Rattle.calls.specs.declared.Verdict.{Verdict}
 use Rattle.calls.specs.declared.Verdict.TheVariants.{Done, NotSound, Stopped, AlreadyStarted, NoSuchId, IdleCaller, OutOfRange, TableFull, AboveCeiling, NotOwner, CountFull, HoldingMore, TiedElsewhere, TimerRunning, TimerStopped, WrongRecord, BufferShort, WrongRow}
 use Rattle.calls.specs.Answers.{number_of}
@@ -36,7 +37,7 @@ use Rattle.demand.specs.Demand.{Repeats, SavesRecord, Agrees, Demand3}
 -- ---- any number of calls and rows
 
 -- whatever the public step repeated gives is what document 01's definition gives
-pub rows_step : (s : State) → sound s ≡ true → (x : Kernel) → x ≡ kernel_of s → (rows : List Decoded) (answers : List Answer) (y : Kernel) → Repeats x rows answers y
+pub rows_step : (s : State) → sound s ≡ true → (x : Kernel) → x ≡ kernel_of s → (rows : List (Option Call)) (answers : List Answer) (y : Kernel) → Repeats x rows answers y
     → (answers ≡ answers_of s rows) × (y ≡ kernel_of (final_of s rows))
 unfolding answers_of final_of
 rows_step s e x d [] answers y w = (w.0, w.1 ∙ d)
@@ -46,7 +47,7 @@ rows_step s e x d (row ∷ rows) answers y w =
     (w.3 ∙ ap₂ (λ (r : Stepped) rest. r.answer ∷ rest) one others.0, others.1)
 
 -- such a run exists, from every kernel whatever: the promises can be met
-pub run_exists : (x : Kernel) (rows : List Decoded) → (answers : List Answer) × (y : Kernel) × Repeats x rows answers y
+pub run_exists : (x : Kernel) (rows : List (Option Call)) → (answers : List Answer) × (y : Kernel) × Repeats x rows answers y
 run_exists x [] = ([], x, (refl, refl))
 run_exists x (row ∷ rows) =
     let one = steps_met x row in

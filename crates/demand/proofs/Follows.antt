@@ -4,6 +4,7 @@
 -- before its delay has passed; a stop gives n less the accepted ticks since its start, or the repeat less those since its last expiry, which is 1 to
 -- 65,535.
 -- Assumes nothing.
+use Rattle.std.specs.Prelude.{Option, Some}
 use Prim.Native.Nat.{ℕ, ◌+◌, ◌-◌, ◌*◌, ◌%◌, ◌<◌, ◌≤◌}
 use mathlib.Core.Path.{◌≡◌, refl, sym, ap, ap₂, ◌∙◌, subst}
 use mathlib.Core.Bool.{Bool, true, false, true≢false}
@@ -18,8 +19,7 @@ use Rattle.units.specs.declared.Micros.{Micros}
 use Rattle.units.specs.Units.{ticks_in, repeat_of}
 use Rattle.calls.specs.declared.Answer.{Answer}
 use Rattle.calls.specs.declared.Call.TheVariants.{Broadcast, StartTimer, StopTimer, Tick}
-use Rattle.calls.specs.declared.Decoded.{Decoded}
-use Rattle.calls.specs.declared.Decoded.TheVariants.{Taken}
+use Rattle.calls.specs.declared.Call.{Call}
 use Rattle.calls.specs.declared.Kind.{Kind}
 use Rattle.calls.specs.declared.Kind.TheVariants.{Periodic}
 use Rattle.calls.specs.Answers.{number_of}
@@ -88,7 +88,7 @@ condition_by_number (on_condition d) c p q = ap on_condition q
 
 -- ---- after any calls and rows
 
-module _ (x : Kernel) (w : SoundKernel x) (rows : List Decoded) (answers : List Answer) (y : Kernel) (run : Repeats x rows answers y) where
+module _ (x : Kernel) (w : SoundKernel x) (rows : List (Option Call)) (answers : List Answer) (y : Kernel) (run : Repeats x rows answers y) where
   abbrev begins : State
   begins = (sound_state x w).0
 
@@ -148,7 +148,7 @@ pub kernel_none_above : (x : Kernel) → SoundKernel x → NoneAbove x
 kernel_none_above x w = let s = sound_state x w in subst (λ y. NoneAbove y) (sym s.2) (above_none s.0 s.1)
 
 -- an accepted broadcast leaves nobody waiting on its condition variable
-pub kernel_broadcast_empties : (x : Kernel) → SoundKernel x → (c : ℕ) (r : Stepped) → Steps x (Taken (Broadcast c)) r → r.answer.number ≡ 0 → NobodyWaits r.kernel c
+pub kernel_broadcast_empties : (x : Kernel) → SoundKernel x → (c : ℕ) (r : Stepped) → Steps x (Some (Broadcast c)) r → r.answer.number ≡ 0 → NobodyWaits r.kernel c
 kernel_broadcast_empties x w c r steps z =
     let s = sound_state x w in
     let is : r ≡ stepped_of (step.step s.0 (Broadcast c)) = unfold step_decoded in (steps.of_sound s.0 s.1 s.2) in
@@ -160,13 +160,13 @@ kernel_broadcast_empties x w c r steps z =
 
 -- a stop of the kernel of a sound state
 stop_told : (s : State) → sound s ≡ true → (y : Kernel) → y ≡ kernel_of s → (i many : ℕ) → GivesTicks (step.step s (StopTimer i)).answer many
-    → (r : Stepped) → Steps y (Taken (StopTimer i)) r → GivesTicks r.answer many
+    → (r : Stepped) → Steps y (Some (StopTimer i)) r → GivesTicks r.answer many
 stop_told s e y d i many told r steps =
     let is : r ≡ stepped_of (step.step s (StopTimer i)) = unfold step_decoded in (steps.of_sound s e d) in
     subst (λ (q : Stepped). GivesTicks q.answer many) (sym is) told
 
 -- a stop that is done gives 1 to 65,535 ticks
-pub kernel_stop_gives_1_to_65535 : (x : Kernel) → SoundKernel x → (i : ℕ) (r : Stepped) → Steps x (Taken (StopTimer i)) r → r.answer.number ≡ 0 → (1 ≤ r.answer.given) × (r.answer.given ≤ 65535)
+pub kernel_stop_gives_1_to_65535 : (x : Kernel) → SoundKernel x → (i : ℕ) (r : Stepped) → Steps x (Some (StopTimer i)) r → r.answer.number ≡ 0 → (1 ≤ r.answer.given) × (r.answer.given ≤ 65535)
 kernel_stop_gives_1_to_65535 x w i r steps z =
     let s = sound_state x w in
     let is : r ≡ stepped_of (step.step s.0 (StopTimer i)) = unfold step_decoded in (steps.of_sound s.0 s.1 s.2) in
@@ -176,8 +176,8 @@ kernel_stop_gives_1_to_65535 x w i r steps z =
 -- of a timer that runs in the state that a kernel describes, such as a loaded one, a stop gives what is left to it there, less the accepted ticks since,
 -- until it is due
 pub kernel_stop_gives_what_is_left : (x : Kernel) (s : State) → sound s ≡ true → x ≡ kernel_of s → (i : ℕ) → goes (timer s.timers i).state ≡ true
-    → (rows : List Decoded) (answers : List Answer) (y : Kernel) → Repeats x rows answers y → NeverStops i rows → ticks_taken rows answers < (timer s.timers i).left
-    → (q : Stepped) → Steps y (Taken (StopTimer i)) q → GivesTicks q.answer ((timer s.timers i).left - ticks_taken rows answers)
+    → (rows : List (Option Call)) (answers : List Answer) (y : Kernel) → Repeats x rows answers y → NeverStops i rows → ticks_taken rows answers < (timer s.timers i).left
+    → (q : Stepped) → Steps y (Some (StopTimer i)) q → GivesTicks q.answer ((timer s.timers i).left - ticks_taken rows answers)
 kernel_stop_gives_what_is_left x s e d i runs rows answers y run never few q steps =
     let ends = rows_step s e x d rows answers y run in
     let past = ap (ticks_taken rows) ends.0 in
@@ -187,15 +187,15 @@ kernel_stop_gives_what_is_left x s e d i runs rows answers y run never few q ste
 
 -- and of a periodic one that keeps n, once the ticks that are left to it there have passed, n less the accepted ticks since it last expired
 pub kernel_periodic_stop_gives : (x : Kernel) (s : State) → sound s ≡ true → x ≡ kernel_of s → (i n c left : ℕ) → timer s.timers i ≡ repeating n c left
-    → (rows : List Decoded) (answers : List Answer) (y : Kernel) → Repeats x rows answers y → NeverStops i rows → (turns k : ℕ) → k < n → ticks_taken rows answers ≡ left + (turns * n + k)
-    → (q : Stepped) → Steps y (Taken (StopTimer i)) q → GivesTicks q.answer (n - k)
+    → (rows : List (Option Call)) (answers : List Answer) (y : Kernel) → Repeats x rows answers y → NeverStops i rows → (turns k : ℕ) → k < n → ticks_taken rows answers ≡ left + (turns * n + k)
+    → (q : Stepped) → Steps y (Some (StopTimer i)) q → GivesTicks q.answer (n - k)
 kernel_periodic_stop_gives x s e d i n c left is rows answers y run never turns k less total q steps =
     let ends = rows_step s e x d rows answers y run in
     let told = periodic_stop_gives s e i n c left is rows never turns k less (sym (ap (ticks_taken rows) ends.0) ∙ total) in
     stop_told (final_of s rows) (rows_keep s e rows) y ends.1 i _ told q steps
 
 -- an accepted tick of the kernel of a sound state
-tick_told : (s : State) → sound s ≡ true → (y : Kernel) → y ≡ kernel_of s → (i c : ℕ) (due : Bool) → Expires s i c due → (r : Stepped) → Steps y (Taken Tick) r → r.answer.number ≡ 0 → TickGives y r i c due
+tick_told : (s : State) → sound s ≡ true → (y : Kernel) → y ≡ kernel_of s → (i c : ℕ) (due : Bool) → Expires s i c due → (r : Stepped) → Steps y (Some Tick) r → r.answer.number ≡ 0 → TickGives y r i c due
 tick_told s e y d i c due told r steps z = by_answer s e Tick
     (λ p k. let is : r ≡ stepped_of (accepted s Tick) = first ∙ ap stepped_of p in record {
       state = s;
@@ -216,7 +216,7 @@ module _ (x : Kernel) (w : SoundKernel x) (i c : ℕ) (v : Micros) where
   abbrev started : Kind → State
   started kind = (step.step (sound_state x w).0 (StartTimer i c kind v)).state
 
-  module _ (kind : Kind) (r : Stepped) (begins : Steps x (Taken (StartTimer i c kind v)) r) (taken : r.answer.number ≡ 0) where
+  module _ (kind : Kind) (r : Stepped) (begins : Steps x (Some (StartTimer i c kind v)) r) (taken : r.answer.number ≡ 0) where
     start_is : r ≡ stepped_of (step.step (sound_state x w).0 (StartTimer i c kind v))
     start_is = unfold step_decoded in (begins.of_sound (sound_state x w).0 (sound_state x w).1 (sound_state x w).2)
 
@@ -226,13 +226,13 @@ module _ (x : Kernel) (w : SoundKernel x) (i c : ℕ) (v : Micros) where
     start_sound : sound (started kind) ≡ true
     start_sound = soundness_is_kept (sound_state x w).0 (StartTimer i c kind v) (sound_state x w).1
 
-    after_start : (rows : List Decoded) (answers : List Answer) (y : Kernel) → Repeats r.kernel rows answers y → (answers ≡ answers_of (started kind) rows) × (y ≡ kernel_of (final_of (started kind) rows))
+    after_start : (rows : List (Option Call)) (answers : List Answer) (y : Kernel) → Repeats r.kernel rows answers y → (answers ≡ answers_of (started kind) rows) × (y ≡ kernel_of (final_of (started kind) rows))
     after_start rows answers y run = rows_step (started kind) start_sound r.kernel (ap (λ (q : Stepped). q.kernel) start_is) rows answers y run
 
     -- at the nth accepted tick after its start, unless it is stopped first, a timer set for n ticks is among those that given counts and its condition
     -- variable is signalled, and not before
-    pub kernel_timer_expires : (rows : List Decoded) (answers : List Answer) (y : Kernel) → Repeats r.kernel rows answers y → NeverStops i rows → ticks_taken rows answers < ticks_in v.0
-        → (q : Stepped) → Steps y (Taken Tick) q → q.answer.number ≡ 0 → TickGives y q i c (eqb (ticks_taken rows answers + 1) (ticks_in v.0))
+    pub kernel_timer_expires : (rows : List (Option Call)) (answers : List Answer) (y : Kernel) → Repeats r.kernel rows answers y → NeverStops i rows → ticks_taken rows answers < ticks_in v.0
+        → (q : Stepped) → Steps y (Some Tick) q → q.answer.number ≡ 0 → TickGives y q i c (eqb (ticks_taken rows answers + 1) (ticks_in v.0))
     kernel_timer_expires rows answers y run never few q steps z =
         let ends = after_start rows answers y run in
         let past = ap (ticks_taken rows) ends.0 in
@@ -241,8 +241,8 @@ module _ (x : Kernel) (w : SoundKernel x) (i c : ℕ) (v : Micros) where
         (tick_told (final_of (started kind) rows) (rows_keep (started kind) start_sound rows) y ends.1 i c _ told q steps z)
 
     -- so it does not expire early: not at a tick that comes while the whole ticks since its start last less than v microseconds
-    pub kernel_never_expires_early : (rows : List Decoded) (answers : List Answer) (y : Kernel) → Repeats r.kernel rows answers y → NeverStops i rows → ticks_taken rows answers * 1000 < v.0
-        → (q : Stepped) → Steps y (Taken Tick) q → q.answer.number ≡ 0 → TickGives y q i c false
+    pub kernel_never_expires_early : (rows : List (Option Call)) (answers : List Answer) (y : Kernel) → Repeats r.kernel rows answers y → NeverStops i rows → ticks_taken rows answers * 1000 < v.0
+        → (q : Stepped) → Steps y (Some Tick) q → q.answer.number ≡ 0 → TickGives y q i c false
     kernel_never_expires_early rows answers y run never early q steps z =
         let ends = after_start rows answers y run in
         let past = ap (ticks_taken rows) ends.0 in
@@ -250,8 +250,8 @@ module _ (x : Kernel) (w : SoundKernel x) (i c : ℕ) (v : Micros) where
         tick_told (final_of (started kind) rows) (rows_keep (started kind) start_sound rows) y ends.1 i c false told q steps z
 
     -- until then a stop is done and gives n less the accepted ticks since the start
-    pub kernel_stop_gives_length_less_ticks : (rows : List Decoded) (answers : List Answer) (y : Kernel) → Repeats r.kernel rows answers y → NeverStops i rows
-        → ticks_taken rows answers < ticks_in v.0 → (q : Stepped) → Steps y (Taken (StopTimer i)) q → GivesTicks q.answer (ticks_in v.0 - ticks_taken rows answers)
+    pub kernel_stop_gives_length_less_ticks : (rows : List (Option Call)) (answers : List Answer) (y : Kernel) → Repeats r.kernel rows answers y → NeverStops i rows
+        → ticks_taken rows answers < ticks_in v.0 → (q : Stepped) → Steps y (Some (StopTimer i)) q → GivesTicks q.answer (ticks_in v.0 - ticks_taken rows answers)
     kernel_stop_gives_length_less_ticks rows answers y run never few q steps =
         let ends = after_start rows answers y run in
         let past = ap (ticks_taken rows) ends.0 in
@@ -260,20 +260,20 @@ module _ (x : Kernel) (w : SoundKernel x) (i c : ℕ) (v : Micros) where
         (stop_told (final_of (started kind) rows) (rows_keep (started kind) start_sound rows) y ends.1 i _ told q steps)
 
   -- and a periodic one again its repeat later, each time, and at none between
-  pub kernel_timer_expires_again : (r : Stepped) → Steps x (Taken (StartTimer i c Periodic v)) r → r.answer.number ≡ 0
-      → (rows : List Decoded) (answers : List Answer) (y : Kernel) → Repeats r.kernel rows answers y → NeverStops i rows
+  pub kernel_timer_expires_again : (r : Stepped) → Steps x (Some (StartTimer i c Periodic v)) r → r.answer.number ≡ 0
+      → (rows : List (Option Call)) (answers : List Answer) (y : Kernel) → Repeats r.kernel rows answers y → NeverStops i rows
       → (turns k : ℕ) → k < repeat_of (ticks_in v.0) → ticks_taken rows answers ≡ ticks_in v.0 + (turns * repeat_of (ticks_in v.0) + k)
-      → (q : Stepped) → Steps y (Taken Tick) q → q.answer.number ≡ 0 → TickGives y q i c (eqb (k + 1) (repeat_of (ticks_in v.0)))
+      → (q : Stepped) → Steps y (Some Tick) q → q.answer.number ≡ 0 → TickGives y q i c (eqb (k + 1) (repeat_of (ticks_in v.0)))
   kernel_timer_expires_again r begins taken rows answers y run never turns k less total q steps z =
       let ends = after_start Periodic r begins taken rows answers y run in
       let told = expires_again (sound_state x w).0 (sound_state x w).1 i c v (start_taken Periodic r begins taken) rows never turns k less (sym (ap (ticks_taken rows) ends.0) ∙ total) in
       tick_told (final_of (started Periodic) rows) (rows_keep (started Periodic) (start_sound Periodic r begins taken) rows) y ends.1 i c _ told q steps z
 
   -- a stop of it gives its repeat less the accepted ticks since it last expired
-  pub kernel_stop_gives_since_last_expiry : (r : Stepped) → Steps x (Taken (StartTimer i c Periodic v)) r → r.answer.number ≡ 0
-      → (rows : List Decoded) (answers : List Answer) (y : Kernel) → Repeats r.kernel rows answers y → NeverStops i rows
+  pub kernel_stop_gives_since_last_expiry : (r : Stepped) → Steps x (Some (StartTimer i c Periodic v)) r → r.answer.number ≡ 0
+      → (rows : List (Option Call)) (answers : List Answer) (y : Kernel) → Repeats r.kernel rows answers y → NeverStops i rows
       → (turns k : ℕ) → k < repeat_of (ticks_in v.0) → ticks_taken rows answers ≡ ticks_in v.0 + (turns * repeat_of (ticks_in v.0) + k)
-      → (q : Stepped) → Steps y (Taken (StopTimer i)) q → GivesTicks q.answer (repeat_of (ticks_in v.0) - k)
+      → (q : Stepped) → Steps y (Some (StopTimer i)) q → GivesTicks q.answer (repeat_of (ticks_in v.0) - k)
   kernel_stop_gives_since_last_expiry r begins taken rows answers y run never turns k less total q steps =
       let ends = after_start Periodic r begins taken rows answers y run in
       let told = stop_gives_since_last_expiry (sound_state x w).0 (sound_state x w).1 i c v (start_taken Periodic r begins taken) rows never turns k less (sym (ap (ticks_taken rows) ends.0) ∙ total) in

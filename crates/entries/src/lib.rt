@@ -7,10 +7,7 @@ ghost use Rattle.std.specs.Prelude.{◌≡◌, get_or, set};
 pub fn load<T: Copy>(list: &[T], at: usize, none: T) -> T
     ensures { result ≡ get_or list.now at none }
 {
-    match list.get(at) {
-        Some(entry) => *entry,
-        None => none,
-    }
+    if at < list.len() { list[at] } else { none }
 }
 
 // Another entry at a place; past the end nothing is stored.

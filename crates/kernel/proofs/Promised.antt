@@ -1,10 +1,11 @@
 -- What the code makes of a sound kernel and of one that is not meets the promise of a step; and that promise allows one result, and one only.
 -- Assumes nothing.
+use Rattle.std.specs.Prelude.{Option}
 use mathlib.Core.Path.{◌≡◌, refl, sym, ap, ◌∙◌}
 use mathlib.Core.Logic.{◌⊎◌, inl, inr, ◌↔◌}
 use mathlib.Core.Bool.{Bool, true, false, ◌&&◌, true≢false}
 use Rattle.laws.proofs.Bools.{by_cases, and_left, and_right, and_both}
-use Rattle.calls.specs.declared.Decoded.{Decoded}
+use Rattle.calls.specs.declared.Call.{Call}
 use Rattle.calls.specs.Answers.{number_of}
 use Rattle.rules.specs.State.{State}
 use Rattle.rules.specs.Sound.{sound}
@@ -27,14 +28,14 @@ use Rattle.kernel.proofs.Sound.{follows_decides, state_sound, sound_state, one_s
 
 module _ (x : Kernel) {b : Bool} (tested : (b ≡ true) ↔ SoundKernel x) where
   -- the test failed: refused
-  pub unsound_steps : (row : Decoded) (r : Stepped) → b ≡ false → r ≡ refusal x (number_of (unsound_verdict row)) → Steps x row r
+  pub unsound_steps : (row : Option Call) (r : Stepped) → b ≡ false → r ≡ refusal x (number_of (unsound_verdict row)) → Steps x row r
   unsound_steps row r e q = record {
     of_sound = λ s o d. absurd (true≢false (sym (tested.1 (state_sound x s o d)) ∙ e));
     of_unsound = λ n. q;
   }
 
   -- the test passed: the engine's step
-  pub sound_steps : (row : Decoded) (y : engine.Stepped) (r : Stepped) → b ≡ true → ((s : State) → sound s ≡ true → x.engine ≡ engine_of s → y ≡ stands.stepped_of (step_decoded s row))
+  pub sound_steps : (row : Option Call) (y : engine.Stepped) (r : Stepped) → b ≡ true → ((s : State) → sound s ≡ true → x.engine ≡ engine_of s → y ≡ stands.stepped_of (step_decoded s row))
       → r ≡ record { kernel = record { engine = y.engine }; answer = y.answer } → Steps x row r
   sound_steps row y r e means q = record {
     of_sound = λ s o d. q ∙ ap (λ (z : engine.Stepped). record { kernel = record { engine = z.engine }; answer = z.answer }) (means s o (ap (λ (z : Kernel). z.engine) d));
@@ -63,7 +64,7 @@ sound_or_not x = by_cases test (λ t. inl (sound.0 t)) (λ f. inr (λ w. true≢
     )
 
 -- any two results that the promise of a step allows are equal
-pub steps_once : (x : Kernel) (row : Decoded) (r q : Stepped) → Steps x row r → Steps x row q → r ≡ q
+pub steps_once : (x : Kernel) (row : Option Call) (r q : Stepped) → Steps x row r → Steps x row q → r ≡ q
 steps_once x row r q a b = go (sound_or_not x)
   where
     go : SoundKernel x ⊎ (SoundKernel x → ⊥) → r ≡ q
@@ -73,7 +74,7 @@ steps_once x row r q a b = go (sound_or_not x)
 -- ---- a result for every kernel
 
 -- the promise of a step can be met, of every kernel whatever and every row
-pub steps_met : (x : Kernel) (row : Decoded) → (r : Stepped) × Steps x row r
+pub steps_met : (x : Kernel) (row : Option Call) → (r : Stepped) × Steps x row r
 steps_met x row = go (sound_or_not x)
   where
     go : SoundKernel x ⊎ (SoundKernel x → ⊥) → (r : Stepped) × Steps x row r

@@ -1,8 +1,8 @@
 -- What the kernel promises: which kernel describes a state, when a kernel is sound, and what a call or a row gives, for every kernel whatever.
 -- Assumes nothing.
+use Rattle.std.specs.Prelude.{Option, Some, None}
 use Rattle.std.specs.Prelude.{ℕ, ◌≡◌, true}
-use Rattle.calls.specs.declared.Decoded.{Decoded}
-use Rattle.calls.specs.declared.Decoded.TheVariants.{Taken, WrongForm}
+use Rattle.calls.specs.declared.Call.{Call}
 use Rattle.calls.specs.declared.Verdict.{Verdict}
 use Rattle.calls.specs.declared.Verdict.TheVariants.{NotSound, WrongRow}
 use Rattle.calls.specs.Answers.{number_of}
@@ -32,11 +32,11 @@ abbrev pub refusal : Kernel → ℕ → Stepped
 refusal x number = record { kernel = x; answer = record { number = number; given = 255; running = 255 } }
 
 -- why a kernel that is not sound refuses: 17 comes before 1
-abbrev pub unsound_verdict : Decoded → Verdict
-unsound_verdict WrongForm = WrongRow
-unsound_verdict (Taken call) = NotSound
+abbrev pub unsound_verdict : Option Call → Verdict
+unsound_verdict None = WrongRow
+unsound_verdict (Some call) = NotSound
 
 -- what a row that was taken apart gives: of a kernel that describes a sound state, document 01's step; of one that is not sound, a refusal
-pub record Steps (x : Kernel) (row : Decoded) (r : Stepped) : Type 0 where
+pub record Steps (x : Kernel) (row : Option Call) (r : Stepped) : Type 0 where
   pub of_sound : (s : State) → sound s ≡ true → x ≡ kernel_of s → r ≡ stepped_of (step_decoded s row)
   pub of_unsound : (SoundKernel x → ⊥) → r ≡ refusal x (number_of (unsound_verdict row))

@@ -4,12 +4,12 @@
 
 ghost use Rattle.std.specs.Prelude.{◌≡◌, true, ◌↔◌};
 ghost use Rattle.calls.specs.declared.Call.TheVariants.{Start, CreateThread, CreateMutex, CreateCondition, CreateTimer, Acquire, Release, Wait, Signal, Broadcast, StartTimer, StopTimer, Tick};
-ghost use Rattle.calls.specs.declared.Decoded.TheVariants.{Taken, WrongForm};
+ghost use Rattle.std.specs.Prelude.{Some, None};
 ghost use Rattle.calls.specs.Rows.{decoded};
 ghost use Rattle.rules.specs.State.{boot};
 ghost use Rattle.kernel.specs.Kernels.{kernel_of, SoundKernel, refusal, Steps};
 
-use calls::{Answer, Call, Decoded, Kind, Row, decode};
+use calls::{Answer, Call, Kind, Row, decode};
 use limits::{NONE, NOTHING};
 use sound_engine::judge;
 use units::Micros;
@@ -64,7 +64,7 @@ impl Kernel {
 
     // A call: 1 if the kernel is not sound, else document 01's step.
     pub fn step(mut self, call: Call) -> Stepped
-        ensures { Steps self (Taken call) result }
+        ensures { Steps self (Some call) result }
     {
         let right = self.is_sound();
         if !right {
@@ -83,7 +83,7 @@ impl Kernel {
 
     // A row of wrong form or cut short: 17, and the thread that runs on; 255 if the kernel is not sound.
     pub fn wrong_row(mut self) -> Stepped
-        ensures { Steps self WrongForm result }
+        ensures { Steps self None result }
     {
         let sound = self.is_sound();
         if !sound {
@@ -105,7 +105,7 @@ impl Kernel {
         ensures { Steps self (decoded row) result }
     {
         let decoded = decode(row);
-        let Decoded::Taken(call) = decoded else {
+        let Some(call) = decoded else {
             return self.wrong_row();
         };
         self.step(call)
@@ -113,91 +113,91 @@ impl Kernel {
 
     // Call 1: the first of the highest ready queue runs.
     pub fn start(mut self) -> Stepped
-        ensures { Steps self (Taken Start) result }
+        ensures { Steps self (Some Start) result }
     {
         self.step(Call::Start)
     }
 
     // Call 2: a thread of a base priority, which is ready.
     pub fn create_thread(mut self, base: u8) -> Stepped
-        ensures { Steps self (Taken (CreateThread base)) result }
+        ensures { Steps self (Some (CreateThread base)) result }
     {
         self.step(Call::CreateThread(base))
     }
 
     // Call 3: a mutex of a ceiling, unowned.
     pub fn create_mutex(mut self, ceiling: u8) -> Stepped
-        ensures { Steps self (Taken (CreateMutex ceiling)) result }
+        ensures { Steps self (Some (CreateMutex ceiling)) result }
     {
         self.step(Call::CreateMutex(ceiling))
     }
 
     // Call 4: a condition variable.
     pub fn create_condition(mut self) -> Stepped
-        ensures { Steps self (Taken CreateCondition) result }
+        ensures { Steps self (Some CreateCondition) result }
     {
         self.step(Call::CreateCondition)
     }
 
     // Call 5: a timer, stopped.
     pub fn create_timer(mut self) -> Stepped
-        ensures { Steps self (Taken CreateTimer) result }
+        ensures { Steps self (Some CreateTimer) result }
     {
         self.step(Call::CreateTimer)
     }
 
     // Call 6: the caller takes mutex m, or waits for it.
     pub fn acquire(mut self, m: u8) -> Stepped
-        ensures { Steps self (Taken (Acquire m)) result }
+        ensures { Steps self (Some (Acquire m)) result }
     {
         self.step(Call::Acquire(m))
     }
 
     // Call 7: the caller gives mutex m up.
     pub fn release(mut self, m: u8) -> Stepped
-        ensures { Steps self (Taken (Release m)) result }
+        ensures { Steps self (Some (Release m)) result }
     {
         self.step(Call::Release(m))
     }
 
     // Call 8: the caller gives mutex m up and waits on condition variable c.
     pub fn wait(mut self, c: u8, m: u8) -> Stepped
-        ensures { Steps self (Taken (Wait c m)) result }
+        ensures { Steps self (Some (Wait c m)) result }
     {
         self.step(Call::Wait(c, m))
     }
 
     // Call 9: the highest, earliest waiter leaves condition variable c.
     pub fn signal(mut self, c: u8) -> Stepped
-        ensures { Steps self (Taken (Signal c)) result }
+        ensures { Steps self (Some (Signal c)) result }
     {
         self.step(Call::Signal(c))
     }
 
     // Call 10: all waiters leave condition variable c.
     pub fn broadcast(mut self, c: u8) -> Stepped
-        ensures { Steps self (Taken (Broadcast c)) result }
+        ensures { Steps self (Some (Broadcast c)) result }
     {
         self.step(Call::Broadcast(c))
     }
 
     // Call 11: a timer is set to signal condition variable c once v microseconds have passed, and a periodic one again and again.
     pub fn start_timer(mut self, id: u8, c: u8, kind: Kind, v: Micros) -> Stepped
-        ensures { Steps self (Taken (StartTimer id c kind v)) result }
+        ensures { Steps self (Some (StartTimer id c kind v)) result }
     {
         self.step(Call::StartTimer(id, c, kind, v))
     }
 
     // Call 12: a timer is stopped.
     pub fn stop_timer(mut self, id: u8) -> Stepped
-        ensures { Steps self (Taken (StopTimer id)) result }
+        ensures { Steps self (Some (StopTimer id)) result }
     {
         self.step(Call::StopTimer(id))
     }
 
     // Call 13: the count advances, and the timers now due expire.
     pub fn tick(mut self) -> Stepped
-        ensures { Steps self (Taken Tick) result }
+        ensures { Steps self (Some Tick) result }
     {
         self.step(Call::Tick)
     }

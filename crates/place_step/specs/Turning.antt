@@ -1,8 +1,8 @@
 -- A row that was taken apart as one call of an engine, and the counts of an engine.
 -- Assumes nothing.
+use Rattle.std.specs.Prelude.{Option, Some, None}
 use Rattle.calls.specs.declared.Answer.{Answer}
-use Rattle.calls.specs.declared.Decoded.{Decoded}
-use Rattle.calls.specs.declared.Decoded.TheVariants.{Taken, WrongForm}
+use Rattle.calls.specs.declared.Call.{Call}
 use Rattle.calls.specs.declared.Verdict.TheVariants.{WrongRow}
 use Rattle.calls.specs.Answers.{number_of, nothing}
 use Rattle.value_engine.specs.declared.Engine.{Engine}
@@ -15,9 +15,9 @@ abbrev pub wrong_row_model : Engine → Answer
 wrong_row_model x = record { number = number_of WrongRow; given = nothing; running = x.scheduler.running }
 
 -- a row that was taken apart: its call done, or answered with nothing changed
-unfoldable pub decoded_model : Engine → Decoded → Stepped
-decoded_model x WrongForm = record { engine = x; answer = wrong_row_model x }
-decoded_model x (Taken call) = step_model x call
+unfoldable pub decoded_model : Engine → Option Call → Stepped
+decoded_model x None = record { engine = x; answer = wrong_row_model x }
+decoded_model x (Some call) = step_model x call
 
 -- whether an engine is started, and its counts
 abbrev pub counts_of : Engine → Counts

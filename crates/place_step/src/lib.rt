@@ -10,7 +10,7 @@ ghost use Rattle.value_engine.specs.Engines.{step_model};
 ghost use Rattle.place_timers.specs.Arrays.{engine_on, stepped_on};
 ghost use Rattle.place_step.specs.Turning.{decoded_model, counts_of};
 
-use calls::{Call, Decoded, Row, Verdict, decode};
+use calls::{Call, Row, Verdict, decode};
 use place_calls::{
     Counted, Counts, acquire, broadcast, create_condition, create_mutex, create_thread,
     create_timer, refuse, release, signal, start, wait, with_answer,
@@ -121,7 +121,7 @@ pub fn step_row(
     ensures { stepped_on cells.new clock.new wheel.new result.counts result.answer ≡ decoded_model (engine_on cells.old clock.old wheel.old counts) (decoded row) }
 {
     let decoded = decode(row);
-    let Decoded::Taken(call) = decoded else {
+    let Some(call) = decoded else {
         let answer = refuse(cells, Verdict::WrongRow);
         return with_answer(counts, answer);
     };

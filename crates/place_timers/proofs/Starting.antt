@@ -1,14 +1,12 @@
 -- A timer started by the length of its delay: out of range it is refused behind the ids, and in range by its state.
 -- Assumes nothing.
+use Rattle.std.specs.Prelude.{Option, Some, None}
 use Prim.Native.Nat.{ℕ}
 use mathlib.Core.Path.{◌≡◌, refl, sym, ap, ◌∙◌}
 use mathlib.Core.Bool.{false}
 use native.Mathlib.Omega.{arith}
 use Rattle.units.specs.declared.Micros.{Micros}
 use Rattle.units.specs.declared.Ticks.{Ticks}
-use Rattle.units.specs.declared.Length.{Length}
-use Rattle.units.specs.declared.Length.TheVariants as lengths
-use Rattle.units.specs.declared.Length.TheVariants.{Whole}
 use Rattle.units.specs.Units.{length_of}
 use Rattle.calls.specs.declared.Answer.{Answer}
 use Rattle.calls.specs.declared.Kind.{Kind}
@@ -23,13 +21,13 @@ use Rattle.value_engine.specs.Engines.{timer_of, timer_started, answered_model, 
 use Rattle.place_calls.proofs.Judging.{refused, accepted}
 
 -- the verdict on the ids, the length of the delay, and the verdict of the whole
-module _ (x : Engine) (id c : ℕ) (kind : Kind) (v : Micros) (ids verdict : Verdict) (l : Length) (read : ids ≡ ids_verdict x.started x.timercount id x.conditions c) (long : l ≡ length_of v) where
+module _ (x : Engine) (id c : ℕ) (kind : Kind) (v : Micros) (ids verdict : Verdict) (l : Option Ticks) (read : ids ≡ ids_verdict x.started x.timercount id x.conditions c) (long : l ≡ length_of v) where
   -- the definition's verdict
   abbrev judgement : Verdict
   judgement = first_verdict (ids_verdict x.started x.timercount id x.conditions c) (delay_verdict (length_of v) (timer_of x id).state)
 
   -- out of range
-  pub start_out_of_range : (a : Answer) → l ≡ lengths.OutOfRange → verdict ≡ first_verdict ids OutOfRange
+  pub start_out_of_range : (a : Answer) → l ≡ None → verdict ≡ first_verdict ids OutOfRange
       → a ≡ record { number = number_of verdict; given = 255; running = x.scheduler.running } → record { engine = x; answer = a } ≡ start_timer_model x id c kind v
   unfolding start_timer_model delay_verdict
   start_out_of_range a out told answer =
@@ -39,7 +37,7 @@ module _ (x : Engine) (id c : ℕ) (kind : Kind) (v : Micros) (ids verdict : Ver
       (λ z. first_refuses ids OutOfRange (λ e. omega (arith, e)) (sym (ap number_of told) ∙ z))
 
   -- in range, n ticks
-  module _ (n : Ticks) (number : ℕ) (stopped : Verdict) (whole : l ≡ Whole n) (state : stopped ≡ start_timer_verdict (timer_of x id).state) (told : verdict ≡ first_verdict ids stopped) (counted : number ≡ number_of verdict) where
+  module _ (n : Ticks) (number : ℕ) (stopped : Verdict) (whole : l ≡ Some n) (state : stopped ≡ start_timer_verdict (timer_of x id).state) (told : verdict ≡ first_verdict ids stopped) (counted : number ≡ number_of verdict) where
     judged_so : verdict ≡ judgement
     unfolding delay_verdict
     judged_so =
@@ -52,6 +50,6 @@ module _ (x : Engine) (id c : ℕ) (kind : Kind) (v : Micros) (ids verdict : Ver
     start_refused a answer some = refused x 255 number verdict judgement counted judged_so (timer_started x id c kind (length_of v)) a answer some
 
     -- done
-    pub start_done : (f : Engine) (y : Stepped) → y ≡ answered_model f 255 false → f ≡ timer_started x id c kind (Whole n) → number ≡ 0 → y ≡ start_timer_model x id c kind v
+    pub start_done : (f : Engine) (y : Stepped) → y ≡ answered_model f 255 false → f ≡ timer_started x id c kind (Some n) → number ≡ 0 → y ≡ start_timer_model x id c kind v
     unfolding start_timer_model
     start_done f y answer made none = accepted x 255 number verdict judgement counted judged_so (timer_started x id c kind (length_of v)) f y answer (made ∙ ap (timer_started x id c kind) (sym whole ∙ long)) none

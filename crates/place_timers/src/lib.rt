@@ -14,7 +14,7 @@ use place_clock::{ClockWords, count_at, put_count, put_timer, timer_at};
 use place_effects::signal;
 use place_tables::Cells;
 use refusals::{first_of, id_verdict, ids_verdict, start_timer_verdict, stop_verdict};
-use units::{Length, Micros, count_of, ticks_of};
+use units::{Micros, count_of, ticks_of};
 use value_engine::{STOPPED_TIMER, Timer, length_kept, state_of};
 use wheel::{Due, WheelWords};
 
@@ -33,7 +33,7 @@ pub fn start_timer(
 {
     let row = timer_at(clock, id);
     let ids = ids_verdict(counts.started, counts.timercount, id, counts.conditions, c);
-    let Length::Whole(first) = ticks_of(v) else {
+    let Some(first) = ticks_of(v) else {
         let verdict = first_of(ids, Verdict::OutOfRange);
         return refuse(cells, verdict);
     };

@@ -1,5 +1,6 @@
 -- The verdict of a delay, as the tests of document 01 have it; and the first of two verdicts, where the second refuses.
 -- Assumes nothing.
+use Rattle.std.specs.Prelude.{Some, None}
 use Prim.Native.Nat.{ℕ}
 use mathlib.Core.Path.{◌≡◌, refl}
 use mathlib.Core.Bool.{Bool, true, false, cond, not}
@@ -8,8 +9,6 @@ use lib.Dec.{eqb}
 use borrow.Author.Tests.{eqb-false}
 use Rattle.laws.proofs.Bools.{by_cases}
 use Rattle.units.specs.declared.Micros.{Micros}
-use Rattle.units.specs.declared.Length.TheVariants as lengths
-use Rattle.units.specs.declared.Length.TheVariants.{Whole}
 use Rattle.units.specs.Units.{too_long, ticks_in, in_ticks, length_of}
 use Rattle.calls.specs.declared.Verdict.{Verdict}
 use Rattle.calls.specs.declared.Verdict.TheVariants.{OutOfRange, TimerRunning}
@@ -22,7 +21,7 @@ pub delay_tests : (v : Micros) (state : ℕ) → delay_verdict (length_of v) sta
 unfolding delay_verdict start_timer_verdict
 delay_tests v state = go (too_long (ticks_in v.0))
   where
-    go : (b : Bool) → delay_verdict (cond b lengths.OutOfRange (Whole (in_ticks (ticks_in v.0)))) state ≡ verdict ((b ⇒ OutOfRange) ∷ (not (eqb state 0) ⇒ TimerRunning) ∷ [])
+    go : (b : Bool) → delay_verdict (cond b None (Some (in_ticks (ticks_in v.0)))) state ≡ verdict ((b ⇒ OutOfRange) ∷ (not (eqb state 0) ⇒ TimerRunning) ∷ [])
     go true = refl
     go false = refl
 

@@ -1,10 +1,9 @@
 -- What the verdict functions make of the values that they are handed: the code's promises cite these. Each verdict is that of the first
 -- of its tests that holds, in document 01's order of checking, or done.
 -- Assumes nothing.
+use Rattle.std.specs.Prelude.{Option, Some, None}
 use Rattle.std.specs.Prelude.{ℕ, ◌+◌, Bool, cond, not, ◌||◌, ◌&&◌, List, [], ◌∷◌, eqb, ltb, leb}
-use Rattle.units.specs.declared.Length.{Length}
-use Rattle.units.specs.declared.Length.TheVariants as lengths
-use Rattle.units.specs.declared.Length.TheVariants.{Whole}
+use Rattle.units.specs.declared.Ticks.{Ticks}
 use Rattle.units.specs.Units.{outside}
 use Rattle.value_effects.specs.declared.Mutex.{Mutex}
 use Rattle.calls.specs.declared.Verdict.{Verdict}
@@ -58,9 +57,9 @@ unfoldable pub start_timer_verdict : ℕ → Verdict
 start_timer_verdict state = verdict ((not (eqb state 0) ⇒ TimerRunning) ∷ [])
 
 -- whether it can with a delay of this length
-unfoldable pub delay_verdict : Length → ℕ → Verdict
-delay_verdict lengths.OutOfRange state = OutOfRange
-delay_verdict (Whole n) state = start_timer_verdict state
+unfoldable pub delay_verdict : Option Ticks → ℕ → Verdict
+delay_verdict None state = OutOfRange
+delay_verdict (Some n) state = start_timer_verdict state
 
 -- whether a timer of this state can stop
 unfoldable pub stop_verdict : ℕ → Verdict

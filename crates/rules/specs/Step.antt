@@ -1,11 +1,10 @@
 -- The step: a state and a call give an answer and the next state.
 -- Assumes nothing.
+use Rattle.std.specs.Prelude.{Option, Some, None}
 use Rattle.std.specs.Prelude.{ℕ, Bool, true, false, cond, List, eqb}
 use Rattle.calls.specs.declared.Call.{Call}
 use Rattle.calls.specs.declared.Call.TheVariants.{Start, CreateThread, CreateMutex, CreateCondition, CreateTimer, Acquire, Release, Wait, Signal, Broadcast, StartTimer, StopTimer, Tick}
 use Rattle.calls.specs.declared.Answer.{Answer}
-use Rattle.calls.specs.declared.Decoded.{Decoded}
-use Rattle.calls.specs.declared.Decoded.TheVariants.{Taken, WrongForm}
 use Rattle.calls.specs.declared.Verdict.{Verdict}
 use Rattle.calls.specs.declared.Verdict.TheVariants.{NotSound, WrongRow}
 use Rattle.calls.specs.Answers.{number_of}
@@ -65,9 +64,9 @@ unfoldable pub step : State → Call → Stepped
 step s call = cond (sound s) (step_sound s call) (refused s 255 NotSound)
 
 -- a row that was taken apart: 17 comes before 1, and running is 255 if the state is not sound
-unfoldable pub step_decoded : State → Decoded → Stepped
-step_decoded s WrongForm = refused s (cond (sound s) (runner s) 255) WrongRow
-step_decoded s (Taken call) = step s call
+unfoldable pub step_decoded : State → Option Call → Stepped
+step_decoded s None = refused s (cond (sound s) (runner s) 255) WrongRow
+step_decoded s (Some call) = step s call
 
 -- a row of 8 bytes
 unfoldable pub step_row : State → List ℕ → Stepped

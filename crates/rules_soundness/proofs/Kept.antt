@@ -1,6 +1,7 @@
 -- The laws about document 01's step that others rest on. A refused call changes nothing; a state that is not sound changes in nothing; a sound
 -- state and any call give a sound state; no ready thread stands above the running one.
 -- Assumes nothing.
+use Rattle.std.specs.Prelude.{Option, Some, None}
 use Prim.Native.Nat.{ℕ, ◌≤◌}
 use mathlib.Core.Path.{◌≡◌, refl}
 use mathlib.Core.Bool.{true}
@@ -8,8 +9,6 @@ use mathlib.Core.List.{List}
 use lib.Dec.{eqb}
 use Rattle.laws.proofs.Bools.{by_cases}
 use Rattle.calls.specs.declared.Call.{Call}
-use Rattle.calls.specs.declared.Decoded.{Decoded}
-use Rattle.calls.specs.declared.Decoded.TheVariants.{Taken, WrongForm}
 use Rattle.calls.specs.Answers.{number_of}
 use Rattle.calls.specs.Rows.{decoded}
 use Rattle.rules.specs.Queues.{empty_set, to_back}
@@ -39,10 +38,10 @@ pub soundness_is_kept : (s : State) (call : Call) → sound s ≡ true → sound
 soundness_is_kept s call e = rw (sound_steps s call e) (facts_sound (step_sound s call).state (sound_stays (sound_facts s e) call))
 
 -- and so do a sound state and any row that was taken apart
-pub decoded_keeps : (s : State) (row : Decoded) → sound s ≡ true → sound (step_decoded s row).state ≡ true
+pub decoded_keeps : (s : State) (row : Option Call) → sound s ≡ true → sound (step_decoded s row).state ≡ true
 unfolding step_decoded
-decoded_keeps s WrongForm e = e
-decoded_keeps s (Taken call) e = soundness_is_kept s call e
+decoded_keeps s None e = e
+decoded_keeps s (Some call) e = soundness_is_kept s call e
 
 -- and so does a row of 8 bytes
 pub row_keeps : (s : State) (row : List ℕ) → sound s ≡ true → sound (step_row s row).state ≡ true

@@ -1,6 +1,7 @@
 -- Pieces are as one: whatever the promises of a run allow, fed in any pieces and closed, is the text of the whole run by document 01, and its end is the
 -- save of the state after the whole rows.
 -- Assumes nothing.
+use Rattle.std.specs.Prelude.{None}
 use Prim.Native.Nat.{ℕ, ◌%◌, ◌<◌, min}
 use mathlib.Core.Path.{◌≡◌, refl, sym, ap, ap₂, ◌∙◌, subst}
 use mathlib.Core.Bool.{true, false, cond}
@@ -11,7 +12,6 @@ use lib.Dec.{eqb}
 use lib.ListN.{length, take, length-append, length-take}
 use Rattle.laws.proofs.Bools.{by_cases}
 use Rattle.calls.specs.declared.Answer.{Answer}
-use Rattle.calls.specs.declared.Decoded.TheVariants.{WrongForm}
 use Rattle.calls.specs.Answers.{number_of}
 use Rattle.rules.specs.State.{State}
 use Rattle.rules.specs.Sound.{sound}
@@ -62,7 +62,7 @@ whole_means : (s : State) → sound s ≡ true → (bytes : List ℕ) → inner_
 unfolding inner_whole answers_to cut_of cut_answer
 whole_means s e bytes =
     let rows = inner_rows_step s e (rows_in bytes) in
-    let cut : wrong_row_model (inner_final (engine_of s) (rows_in bytes)) ≡ (step_decoded (state_after s bytes) WrongForm).answer = ap wrong_row_model rows.1 ∙ wrong_row_steps (state_after s bytes) (rows_keep s e (rows_in bytes)) in
+    let cut : wrong_row_model (inner_final (engine_of s) (rows_in bytes)) ≡ (step_decoded (state_after s bytes) None).answer = ap wrong_row_model rows.1 ∙ wrong_row_steps (state_after s bytes) (rows_keep s e (rows_in bytes)) in
     ap₂ ◌++◌ rows.0 (ap (λ a. cond (eqb (length bytes % 8) 0) [] (a ∷ [])) cut)
 
 -- ---- pieces

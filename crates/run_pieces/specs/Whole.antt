@@ -1,8 +1,8 @@
 -- A run, whole, by document 01's definitions: where it begins, the text of all its bytes, and what saving at its end gives.
 -- Assumes nothing.
+use Rattle.std.specs.Prelude.{None}
 use Rattle.std.specs.Prelude.{ℕ, ◌%◌, Bool, cond, List, [], ◌∷◌, ◌++◌, map, length, eqb}
 use Rattle.calls.specs.declared.Answer.{Answer}
-use Rattle.calls.specs.declared.Decoded.TheVariants.{WrongForm}
 use Rattle.calls.specs.declared.Verdict.TheVariants.{Done}
 use Rattle.calls.specs.Answers.{number_of}
 use Rattle.calls.specs.Rows.{decoded}
@@ -34,7 +34,7 @@ state_after s bytes = final_of s (map decoded (rows_in bytes))
 
 -- the answer to a row that is cut short, where the bytes end in one
 unfoldable pub cut_answer : State → List ℕ → List Answer
-cut_answer s bytes = cond (eqb (length bytes % 8) 0) [] ((step_decoded s WrongForm).answer ∷ [])
+cut_answer s bytes = cond (eqb (length bytes % 8) 0) [] ((step_decoded s None).answer ∷ [])
 
 -- the answers to some bytes, in order: one for each whole row, and one for a last row that is cut short
 unfoldable pub answers_to : State → List ℕ → List Answer

@@ -1,11 +1,11 @@
 -- From a sound state the inner step repeated gives document 01's answers and the state after them, and that state is sound.
 -- Assumes nothing.
+use Rattle.std.specs.Prelude.{Option, Some, None}
 use Prim.Native.Nat.{ℕ}
 use mathlib.Core.Path.{◌≡◌, refl, sym, ap, ◌∙◌}
 use mathlib.Core.Bool.{true}
 use mathlib.Core.List.{List, [], ◌∷◌, map}
-use Rattle.calls.specs.declared.Decoded.{Decoded}
-use Rattle.calls.specs.declared.Decoded.TheVariants.{Taken, WrongForm}
+use Rattle.calls.specs.declared.Call.{Call}
 use Rattle.calls.specs.Rows.{decoded}
 use Rattle.rules.specs.State.{State}
 use Rattle.rules.specs.Sound.{sound}
@@ -24,9 +24,9 @@ use Rattle.run_rows.specs.Many.{inner_answers, inner_final}
 pub row_steps : (s : State) → sound s ≡ true → (row : List ℕ) → row_model (engine_of s) row ≡ stepped_of (step_row s row)
 row_steps s e row = by (decoded row) refl
   where
-    by : (d : Decoded) → decoded row ≡ d → row_model (engine_of s) row ≡ stepped_of (step_row s row)
-    by WrongForm w = let p = wrong_promise (engine_of s) row _ w refl in sym p.0 ∙ p.1 s e refl
-    by (Taken call) w = let p = taken_promise (engine_of s) row (step_model (engine_of s) call) w (step_promise (engine_of s) call _ refl) in sym p.0 ∙ p.1 s e refl
+    by : (d : Option Call) → decoded row ≡ d → row_model (engine_of s) row ≡ stepped_of (step_row s row)
+    by None w = let p = wrong_promise (engine_of s) row _ w refl in sym p.0 ∙ p.1 s e refl
+    by (Some call) w = let p = taken_promise (engine_of s) row (step_model (engine_of s) call) w (step_promise (engine_of s) call _ refl) in sym p.0 ∙ p.1 s e refl
 
 -- the inner step repeated gives document 01's answers and the state after them
 pub inner_rows_step : (s : State) → sound s ≡ true → (rows : List (List ℕ)) → (inner_answers (engine_of s) rows ≡ answers_of s (map decoded rows)) × (inner_final (engine_of s) rows ≡ engine_of (final_of s (map decoded rows)))

@@ -5,19 +5,19 @@ ghost use Rattle.std.specs.Prelude.{◌≡◌, true};
 ghost use Rattle.rules.specs.State.{State};
 ghost use Rattle.rules.specs.Sound.{sound};
 ghost use Rattle.rules.specs.Step.{step_row, step_decoded};
-ghost use Rattle.calls.specs.declared.Decoded.TheVariants.{WrongForm};
+ghost use Rattle.std.specs.Prelude.{None};
 ghost use Rattle.value_engine.specs.Stands.{engine_of, stepped_of};
 ghost use Rattle.place_step.specs.Turning.{wrong_row_model};
 ghost use Rattle.run_rows.specs.Rows.{row_model, row_at};
 
-use calls::{Answer, Decoded, ROW, Row, decode};
+use calls::{Answer, ROW, Row, decode};
 use limits::NOTHING;
 use value_engine::{Engine, Stepped};
 
 // The answer to a row that is cut short or of wrong form: 17, given 255, and the thread that runs on.
 pub fn wrong_row(engine: Engine) -> Answer
     ensures always { result ≡ wrong_row_model engine }
-    ensures means { (s : State) → sound s ≡ true → engine ≡ engine_of s → result ≡ (step_decoded s WrongForm).answer }
+    ensures means { (s : State) → sound s ≡ true → engine ≡ engine_of s → result ≡ (step_decoded s None).answer }
 {
     let scheduler = engine.scheduler;
     Answer {
@@ -33,7 +33,7 @@ pub fn step_row(engine: Engine, row: Row) -> Stepped
     ensures means { (s : State) → sound s ≡ true → engine ≡ engine_of s → result ≡ stepped_of (step_row s row) }
 {
     let decoded = decode(row);
-    let Decoded::Taken(call) = decoded else {
+    let Some(call) = decoded else {
         let answer = wrong_row(engine);
         return Stepped { engine, answer };
     };

@@ -1,6 +1,7 @@
 -- What the length of a delay and the repeat are: a delay is out of range exactly above 65,534,000 microseconds; n ticks, of which the first is partly used,
 -- last at least v microseconds, and fewer do not; the repeat is 1 to 65,535 where n is, and n is at most one more.
 -- Assumes nothing.
+use Rattle.std.specs.Prelude.{Some, None}
 use Prim.Native.Nat.{ℕ, ◌+◌, ◌-◌, ◌*◌, ◌<◌, ◌≤◌}
 use mathlib.Core.Path.{◌≡◌, refl, subst}
 use mathlib.Core.Bool.{Bool, true, false}
@@ -8,16 +9,15 @@ use native.Mathlib.Omega.{arith}
 use lib.Dec.{ltb}
 use borrow.Author.Tests.{eq-eqb, ne_eqb, ltb-true, ltb-false, lt-ltb, le-ltb}
 use Rattle.units.specs.declared.Micros.{Micros}
-use Rattle.units.specs.declared.Length.TheVariants.{Whole, OutOfRange}
 use Rattle.units.specs.Units.{rounded_up, ticks_in, repeat_of, in_ticks, too_long, length_of}
 
 -- ---- the length
 
 -- by a number that is the delay, rounded up
-pub length_out : (v : Micros) (up : ℕ) → up ≡ rounded_up v.0 → 65535 < up + 1 → OutOfRange ≡ length_of v
+pub length_out : (v : Micros) (up : ℕ) → up ≡ rounded_up v.0 → 65535 < up + 1 → None ≡ length_of v
 length_out v up is over = rw (lt-ltb 65535 (ticks_in v.0) (omega (arith, is, over)))
 
-pub length_whole : (v : Micros) (up : ℕ) → up ≡ rounded_up v.0 → up + 1 ≤ 65535 → Whole (in_ticks (up + 1)) ≡ length_of v
+pub length_whole : (v : Micros) (up : ℕ) → up ≡ rounded_up v.0 → up + 1 ≤ 65535 → Some (in_ticks (up + 1)) ≡ length_of v
 length_whole v up is within = rw (le-ltb 65535 (ticks_in v.0) (omega (arith, is, within)), is)
 
 -- out of range exactly above 65,534,000

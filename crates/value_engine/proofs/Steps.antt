@@ -1,6 +1,7 @@
 -- Demand 2's heart: a call of the engine that describes a sound state gives the engine and the answer of document 01's step, so that the engine
 -- describes a sound state again. And boot is document 01's boot.
 -- Assumes nothing.
+use Rattle.std.specs.Prelude.{None}
 use mathlib.Core.Path.{◌≡◌, refl, sym, ap, ◌∙◌}
 use mathlib.Core.Bool.{true}
 use mathlib.Core.List.{flatten}
@@ -14,7 +15,6 @@ use Rattle.rules.specs.Page.{state_code, object_code, timer_code}
 use Rattle.value_meaning.specs.Stands.{all_sets, threads_of, scheduler_of}
 use Rattle.calls.specs.declared.Call.{Call}
 use Rattle.calls.specs.declared.Call.TheVariants.{Start, CreateThread, CreateMutex, CreateCondition, CreateTimer, Acquire, Release, Wait, Signal, Broadcast, StartTimer, StopTimer, Tick}
-use Rattle.calls.specs.declared.Decoded.TheVariants.{WrongForm}
 use Rattle.calls.specs.declared.Verdict.TheVariants.{WrongRow}
 use Rattle.rules.specs.State.{State, highest_ceiling, priority, set_at, boot}
 use Rattle.rules.specs.Sound.{sound}
@@ -57,13 +57,13 @@ pub step_promise : (x : Engine) (call : Call) (r : Stepped) → r ≡ step_model
 step_promise x call r e = (e, λ s o d. e ∙ ap (λ y. step_model y call) d ∙ engine_steps s o call)
 
 -- 17 of the engine that describes a sound state is document 01's 17
-wrong_steps : (s : State) → sound s ≡ true → refused_model (engine_of s) WrongRow ≡ stepped_of (step_decoded s WrongForm)
+wrong_steps : (s : State) → sound s ≡ true → refused_model (engine_of s) WrongRow ≡ stepped_of (step_decoded s None)
 unfolding step_decoded
 wrong_steps s e = rw e (refused_stands s WrongRow)
 
 -- so every result that the model of 17 allows is the definition's
 pub wrong_promise : (x : Engine) (r : Stepped) → r ≡ refused_model x WrongRow
-    → (r ≡ refused_model x WrongRow) × ((s : State) → sound s ≡ true → x ≡ engine_of s → r ≡ stepped_of (step_decoded s WrongForm))
+    → (r ≡ refused_model x WrongRow) × ((s : State) → sound s ≡ true → x ≡ engine_of s → r ≡ stepped_of (step_decoded s None))
 wrong_promise x r e = (e, λ s o d. e ∙ ap (λ y. refused_model y WrongRow) d ∙ wrong_steps s o)
 
 -- boot is document 01's boot

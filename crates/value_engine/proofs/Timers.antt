@@ -1,5 +1,6 @@
 -- The calls that start and stop a timer, on the engine that describes a sound state, give the engine and the answer of document 01's step.
 -- Assumes nothing.
+use Rattle.std.specs.Prelude.{Some, None}
 use Prim.Native.Nat.{ℕ, ◌%◌, ◌<◌, ◌≤◌}
 use mathlib.Core.Path.{◌≡◌, refl, sym, ap, ap₂, ◌∙◌}
 use mathlib.Core.Logic.{◌≢◌}
@@ -14,7 +15,6 @@ use Rattle.laws.specs.Lists.{tabulate}
 use Rattle.laws.proofs.Bools.{nor_left, and_right, and_both, cond_true, cond_false}
 use Rattle.laws.proofs.Lists.{by_below, get_d_tabulate, length_tabulate, set_tabulate}
 use Rattle.units.specs.declared.Micros.{Micros}
-use Rattle.units.specs.declared.Length.TheVariants.{Whole, OutOfRange}
 use Rattle.units.specs.Units.{ticks_in, too_long, in_ticks, length_of}
 use Rattle.calls.specs.declared.Call.TheVariants.{StartTimer, StopTimer}
 use Rattle.calls.specs.declared.Kind.{Kind}
@@ -122,8 +122,8 @@ module _ {s : State} (o : Sound s) where
     unfolding tests
     was_stopped = (passed s (StartTimer i c kind v) z).1.1.1.0
 
-    length_so : length_of v ≡ Whole (in_ticks (ticks_in v.0))
-    length_so = cond_false (too_long (ticks_in v.0)) OutOfRange (Whole (in_ticks (ticks_in v.0))) in_range_lem
+    length_so : length_of v ≡ Some (in_ticks (ticks_in v.0))
+    length_so = cond_false (too_long (ticks_in v.0)) None (Some (in_ticks (ticks_in v.0))) in_range_lem
 
     some : 0 < ticks_in v.0
     some = omega arith

@@ -1,10 +1,10 @@
 -- What the engine's functions make of the values that they are handed: the code's promises cite these. The laws of proofs/ carry them to
 -- document 01's definition. An id is taken modulo the size of its table.
 -- Assumes nothing.
+use Rattle.std.specs.Prelude.{Option, Some, None}
 use Rattle.std.specs.Prelude.{ℕ, zero, suc, ◌+◌, ◌%◌, Bool, true, false, cond, List, get_or, set, replicate, eqb, leb}
 use Rattle.units.specs.declared.Micros.{Micros}
-use Rattle.units.specs.declared.Length.{Length}
-use Rattle.units.specs.declared.Length.TheVariants.{Whole, OutOfRange}
+use Rattle.units.specs.declared.Ticks.{Ticks}
 use Rattle.units.specs.Units.{in_ticks, length_of}
 use Rattle.queue.specs.Linking.{empty_links, empty_queues}
 use Rattle.value_tables.specs.Tables.{arrive_model}
@@ -158,9 +158,9 @@ broadcast_model x c =
 
 -- the engine with timer id started for condition variable c: first due after this length, which its row keeps, or a periodic one's the repeat; out of
 -- range nothing changes
-abbrev pub timer_started : Engine → ℕ → ℕ → Kind → Length → Engine
-timer_started x id c kind OutOfRange = x
-timer_started x id c kind (Whole n) = with_timer x id (record { state = kind_code kind; condition = c; length = in_ticks (length_kept kind n.0) }) (started_in x.wheel id n.0)
+abbrev pub timer_started : Engine → ℕ → ℕ → Kind → Option Ticks → Engine
+timer_started x id c kind None = x
+timer_started x id c kind (Some n) = with_timer x id (record { state = kind_code kind; condition = c; length = in_ticks (length_kept kind n.0) }) (started_in x.wheel id n.0)
 
 -- start timer id for condition variable c
 unfoldable pub start_timer_model : Engine → ℕ → ℕ → Kind → Micros → Stepped

@@ -4,7 +4,7 @@
 #![tactic(auto)]
 
 ghost use Rattle.std.specs.Prelude.{◌≡◌, true};
-ghost use Rattle.calls.specs.declared.Decoded.TheVariants.{WrongForm};
+ghost use Rattle.std.specs.Prelude.{None};
 ghost use Rattle.calls.specs.declared.Verdict.TheVariants.{WrongRow};
 ghost use Rattle.units.specs.Units.{in_ticks};
 ghost use Rattle.rules.specs.State.{State, boot};
@@ -25,7 +25,7 @@ use refusals::{
     acquire_verdict, created_verdict, first_of, held_verdict, id_verdict, ids_verdict, owned_by,
     release_verdict, room_verdict, start_timer_verdict, start_verdict, stop_verdict,
 };
-use units::{Length, Micros, Ticks, count_of, repeat_of, ticks_of};
+use units::{Micros, Ticks, count_of, repeat_of, ticks_of};
 use value_effects::{FREE_MUTEX, SETS, Scheduler};
 use value_tables::{BLANK_THREAD, Threads};
 use wheel::{Due, Wheel};
@@ -370,7 +370,7 @@ impl Engine {
         let i = (id % TIMERS) as usize;
         let row = self.timers[i];
         let ids = ids_verdict(self.started, self.timercount, id, self.conditions, c);
-        let Length::Whole(first) = ticks_of(v) else {
+        let Some(first) = ticks_of(v) else {
             let refusal = first_of(ids, Verdict::OutOfRange);
             return self.refused(refusal);
         };
@@ -516,7 +516,7 @@ impl Engine {
     // A row of wrong form or cut short: 17, and nothing changes.
     pub fn wrong_row(self) -> Stepped
         ensures always { result ≡ refused_model self WrongRow }
-        ensures means { (s : State) → sound s ≡ true → self ≡ engine_of s → result ≡ stepped_of (step_decoded s WrongForm) }
+        ensures means { (s : State) → sound s ≡ true → self ≡ engine_of s → result ≡ stepped_of (step_decoded s None) }
     {
         self.refused(Verdict::WrongRow)
     }

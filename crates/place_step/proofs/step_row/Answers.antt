@@ -10,4 +10,4 @@ returns-in_default c =
 pub returns : goal.returns
 unfolding decoded_model
 returns c =
-    rw (← c.decode-decoded.ensures, c.in-Taken.is) c.step.ensures
+    rw (← c.decode-decoded.ensures, c.in-Some.is) c.step.ensures

@@ -23,7 +23,7 @@ returns-then-n-ne0 c =
     let x = engine_on a.cells.now a.clock.now a.wheel.now a.counts in
     let state = c.start_timer_verdict-stopped.ensures ∙ ap (λ (row : Timer). start_timer_verdict row.state) c.timer_at-row.ensures in
     start_refused x a.id a.c a.kind a.v _ _ _ c.ids_verdict-ids.ensures c.ticks_of.ensures
-    _ _ _ c.in-Whole.is state c.first_of-verdict-2.ensures c.number-n.ensures
+    _ _ _ c.in-Some.is state c.first_of-verdict-2.ensures c.number-n.ensures
     _ c.refuse-then-n-ne0.ensures c.if-n-ne0.true
 
 pub returns : goal.returns
@@ -32,7 +32,7 @@ returns c =
     let x = engine_on a.cells.now a.clock.now a.wheel.now a.counts in
     let state = c.start_timer_verdict-stopped.ensures ∙ ap (λ (row : Timer). start_timer_verdict row.state) c.timer_at-row.ensures in
     start_done x a.id a.c a.kind a.v _ _ _ c.ids_verdict-ids.ensures c.ticks_of.ensures
-    _ _ _ c.in-Whole.is state c.first_of-verdict-2.ensures c.number-n.ensures
+    _ _ _ c.in-Some.is state c.first_of-verdict-2.ensures c.number-n.ensures
     _ _ (c.finish.ensures _)
     (ap (λ (t : Clock). engine_in a.cells.now (record { timers = t.timers; wheel = wheel_in c.start.new.wheel; count = t.count }) a.counts) c.put_timer.ensures
     ∙ (λ i. with_timer x a.id (record { state = c.state_of-state.ensures i; condition = a.c; length = c.length_kept-length.ensures i }) (c.start.ensures.always i)))

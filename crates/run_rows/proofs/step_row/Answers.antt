@@ -11,5 +11,5 @@ returns-in_default c =
 
 pub returns : goal.returns
 returns c =
-    let p = taken_promise c.args.engine c.args.row _ (sym c.decode-decoded.ensures ∙ c.in-Taken.is) (c.step.ensures.always, c.step.ensures.means) in
+    let p = taken_promise c.args.engine c.args.row _ (sym c.decode-decoded.ensures ∙ c.in-Some.is) (c.step.ensures.always, c.step.ensures.means) in
     record { always = p.0; means = p.1 }

@@ -9,4 +9,4 @@ returns-in_default c =
 
 pub returns : goal.returns
 returns c =
-    subst (λ d. Steps c.args.self d c.step.result) (sym (sym c.decode-decoded.ensures ∙ c.in-Taken.is)) c.step.ensures
+    subst (λ d. Steps c.args.self d c.step.result) (sym (sym c.decode-decoded.ensures ∙ c.in-Some.is)) c.step.ensures

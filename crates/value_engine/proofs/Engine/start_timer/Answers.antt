@@ -17,9 +17,9 @@ returns-in_default c =
 pub returns-then-n-ne0 : goal.returns-then-n-ne0
 unfolding start_timer_model delay_verdict
 returns-then-n-ne0 c =
-    rw (← c.ids_verdict-ids.ensures, ← c.ticks_of.ensures, c.in-Whole.is, ← c.start_timer_verdict-stopped.ensures, ← c.first_of-verdict.ensures, ← c.number-n.ensures, ne_eqb _ _ c.if-n-ne0.true) c.refused-then-n-ne0.ensures
+    rw (← c.ids_verdict-ids.ensures, ← c.ticks_of.ensures, c.in-Some.is, ← c.start_timer_verdict-stopped.ensures, ← c.first_of-verdict.ensures, ← c.number-n.ensures, ne_eqb _ _ c.if-n-ne0.true) c.refused-then-n-ne0.ensures
 
 pub returns : goal.returns
 unfolding start_timer_model delay_verdict
 returns c =
-    rw (← c.ids_verdict-ids.ensures, ← c.ticks_of.ensures, c.in-Whole.is, ← c.start_timer_verdict-stopped.ensures, ← c.first_of-verdict.ensures, ← c.number-n.ensures, eq-eqb _ _ c.if-n-ne0.false, ← c.state_of-state.ensures, ← c.length_kept-length.ensures, ← c.start-after.ensures.always) c.answered.ensures
+    rw (← c.ids_verdict-ids.ensures, ← c.ticks_of.ensures, c.in-Some.is, ← c.start_timer_verdict-stopped.ensures, ← c.first_of-verdict.ensures, ← c.number-n.ensures, eq-eqb _ _ c.if-n-ne0.false, ← c.state_of-state.ensures, ← c.length_kept-length.ensures, ← c.start-after.ensures.always) c.answered.ensures

@@ -1,5 +1,0 @@
--- `naming_all` meets its contract by `taken`'s. Assumes nothing.
-use Rattle.calls.proofs.naming_all.Goals as goal
-
-pub returns : goal.returns
-returns c = c.taken.ensures
