@@ -2,18 +2,18 @@
 -- Assumes nothing.
 use Prim.Native.Nat.{ℕ, suc, ◌+◌, ◌-◌, ◌^◌, ◌<◌, ◌≤◌}
 use mathlib.Core.Path.{◌≡◌, refl, sym, ap, ◌∙◌}
-use mathlib.Core.Logic.{◌≢◌, inl, inr}
+use mathlib.Core.Logic.{inl, inr}
 use mathlib.Core.Bool.{Bool, true, false, xor, cond, ◌||◌, ◌&&◌}
 use native.Mathlib.Nat.{lt_of_lt_of_le}
 use native.Mathlib.Omega.{arith}
 use lib.Bits.{bit_and, bit_or, bit_xor}
 use lib.Count.{count_leading_zeros, leading_top}
-use lib.Dec.{eqb, ltb}
+use lib.Dec.{eqb}
 use lib.Pow.{pow_pos, pow_mono}
-use borrow.Author.Tests.{lt-ltb, le-ltb, eq-eqb, ne_eqb}
+use borrow.Author.Tests.{lt-ltb, le-ltb, ne_eqb}
 use Rattle.laws.specs.Bits.{holds, word_of}
 use Rattle.laws.proofs.Lists.{by_equal}
-use Rattle.laws.proofs.Bits.{word_same, word_own, word_one, word_below, holds_word, holds_past, holds_top, and_words, or_words, xor_words}
+use Rattle.laws.proofs.Bits.{word_same, word_own, word_one, holds_past, holds_top, and_words, or_words, xor_words}
 use Rattle.queue.specs.Words.{highest_bit, with_bit}
 use Rattle.queue.specs.Linking.{highest_below}
 use Rattle.queue.specs.Stands.{IsHighest}

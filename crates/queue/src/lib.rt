@@ -1,6 +1,8 @@
 // Queues of threads, linked by index: each queue has its first and its last thread, 255 for none, and all threads together
 // have one array of links. An operation takes the links and one queue and hands both back.
 // A thread's id or an end of 32 or more is no thread: nothing is stored there.
+#![tactic(auto)]
+
 ghost use Rattle.std.specs.Prelude.{◌≡◌};
 ghost use Rattle.queue.specs.Words.{highest_bit, with_bit};
 ghost use Rattle.queue.specs.Linking.{empty_queue, empty_links, empty_queues, back_model, front_model, leave_model, ahead_model, remove_model, level_model, with_level_model, highest_model};
@@ -147,18 +149,15 @@ impl Links {
         ensures { result ≡ ahead_model self.next 32 first t }
     {
         let mut met = first;
-        let mut passed: u8 = 0;
-        while passed < THREADS {
+        for passed in 0..THREADS {
             if THREADS <= met {
                 return NONE;
             }
-            let i = met as usize;
-            let after = self.next[i];
+            let after = self.next[met as usize];
             if after == t {
                 return met;
             }
             met = after;
-            passed += 1;
         }
         NONE
     }
@@ -227,15 +226,12 @@ impl Queues {
     pub fn highest(self) -> u8
         ensures { result ≡ highest_model self }
     {
-        let mut passed: u8 = 0;
-        while passed < PRIORITIES {
+        for passed in 0..PRIORITIES {
             let p = HIGHEST - passed;
-            let i = p as usize;
-            let q = self.levels[i];
+            let q = self.levels[p as usize];
             if q.first < THREADS {
                 return p;
             }
-            passed += 1;
         }
         PRIORITIES
     }

@@ -3,12 +3,12 @@
 // specs/Inside.antt says where each table stands in it.
 #![tactic(auto)]
 
-ghost use Rattle.std.specs.Prelude.{◌≡◌, ◌↔◌, true, get_or};
+ghost use Rattle.std.specs.Prelude.{◌≡◌, ◌↔◌, true};
 ghost use Rattle.wheel.specs.Hung.{Hung, Good, empty, started, stopped, left, due};
 ghost use Rattle.wheel.specs.Inside.{bit_of};
 ghost use Rattle.wheel.specs.Promise.{wheel_in, ticked_with, wheel_of, started_in, stopped_in, left_in, ticked_in, ticked_of, ids_of, without_first, first, rest};
 
-use choice::both;
+use entries::load;
 use limits::{NONE, TIMER_ROWS, TIMERS};
 use units::Ticks;
 
@@ -73,16 +73,6 @@ fn bit(id: u8) -> u32
     1u32 << id
 }
 
-// The word at a place, 0 past the end. The prover knows that what a function gives fits its type, which it does not know of a word of a lent array.
-fn load(words: &[u32], at: usize) -> u32
-    ensures { result ≡ get_or words.now at 0 }
-{
-    if words.len() <= at {
-        return 0;
-    }
-    words[at]
-}
-
 // ---- a wheel that is lent
 
 // The words of a wheel with every timer stopped, at this tick count.
@@ -90,10 +80,8 @@ pub fn empty_words(count: u32) -> WheelWords
     ensures { wheel_in result ≡ wheel_of (empty count) }
 {
     let mut words = [0u32; WHEEL_WORDS];
-    let mut i: usize = 0;
-    while i < TIMER_ROWS {
+    for i in 0..TIMER_ROWS {
         words[SPOKE_FROM + i] = NONE as u32;
-        i += 1;
     }
     words[POSITION_AT] = count % SPOKES;
     words
@@ -154,7 +142,7 @@ pub fn left(wheel: &WheelWords, id: u8) -> Ticks
     if SPOKES <= at {
         return Ticks(0);
     }
-    let turns = load(wheel, TURNS_FROM + i) as u64;
+    let turns = load(wheel, TURNS_FROM + i, 0) as u64;
     let way = (at + LAST_SPOKE - wheel[POSITION_AT] % SPOKES) % SPOKES;
     Ticks(((turns * SPOKES as u64 + way as u64 + 1) % TICK_NUMBERS) as u16)
 }
@@ -169,7 +157,7 @@ pub fn tick(wheel: &mut WheelWords) -> Turned
     let at = (from + 1) % SPOKES;
     let here = at as usize;
     wheel[POSITION_AT] = at;
-    let mut rest = load(wheel, here);
+    let mut rest = load(wheel, here, 0);
     let mut due: u32 = 0;
     let mut visits: u8 = 0;
     while 0 < rest {
@@ -189,19 +177,11 @@ pub fn tick(wheel: &mut WheelWords) -> Turned
     Turned { due, visits }
 }
 
-// Whether two wheels in words are the same. Every word is looked at, so that many can be compared at once.
+// Whether two wheels in words are the same.
 pub fn same_words(one: &WheelWords, other: &WheelWords) -> bool
     ensures { (result ≡ true) ↔ (wheel_in one.now ≡ wheel_in other.now) }
 {
-    let first: &[u32] = one;
-    let second: &[u32] = other;
-    let mut same = true;
-    let mut i: usize = 0;
-    while i < WHEEL_WORDS {
-        same = both(same, first[i] == second[i]);
-        i += 1;
-    }
-    same
+    one == other
 }
 
 // The words of a wheel.

@@ -1,7 +1,6 @@
 -- `with_bit` meets its contract: what a word has besides a bit, with that bit or without it. Assumes nothing.
-use Rattle.std.proofs.Common.{◌≡◌, ℕ, ◌*◌, ◌%◌, ◌^◌, ◌<◌, ap, ◌∙◌, arith}
+use Rattle.std.proofs.Common.{◌≡◌, ℕ, ◌*◌, ◌%◌, ◌^◌, ◌<◌, arith}
 use borrow.Author.Tests.{le-ltb}
-use lib.Bits.{bit_and, bit_or, bit_xor}
 use lib.Pow.{pow-lt}
 use Rattle.queue.specs.Words.{with_bit}
 use Rattle.queue.proofs.Words.{bit_set, bit_cleared}

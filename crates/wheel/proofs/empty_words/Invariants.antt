@@ -1,5 +1,5 @@
 -- `empty_words` meets its contract. The invariant: the spokes of the timers below i are written. The measure is what is left. Assumes nothing.
-use Prim.Native.Nat.{◌-◌, ◌≤◌}
+use Prim.Native.Nat.{◌≤◌}
 use mathlib.Core.Path.{◌≡◌}
 use Rattle.wheel.specs.Inside.{laid}
 use Rattle.wheel.proofs.Emptying.{written}
@@ -7,6 +7,3 @@ use Rattle.wheel.proofs.empty_words.Given as goal
 
 abbrev pub invariant-loop-i : goal.invariant-loop-i
 invariant-loop-i l = (l.i ≤ 32) × (l.words ≡ laid (written l.i))
-
-abbrev pub decreases-loop-i : goal.decreases-loop-i
-decreases-loop-i l = 32 - l.i

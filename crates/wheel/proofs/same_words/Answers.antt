@@ -1,28 +1,12 @@
--- `same_words` meets its contract. The invariant: the words below i are compared. The measure is what is left. Assumes nothing.
-use mathlib.Core.Path.{◌≡◌}
-use native.Mathlib.Omega.{arith}
-use lib.ListN.{length}
-use Rattle.laws.proofs.Same.{exactly, look_none, look_next, look_all}
+-- `same_words` meets its contract: two wheels are one exactly if their words are. Assumes nothing.
+use Rattle.std.proofs.Common.{rules, ◌≡◌, true}
+use mathlib.Core.Path.{ap}
+use Rattle.wheel.specs.declared.Wheel.{Wheel}
+use Rattle.wheel.specs.Inside.{made}
 use Rattle.wheel.specs.Promise.Opened.{words_are}
-use Rattle.wheel.proofs.Same.{wheels}
 use Rattle.wheel.proofs.same_words.Goals as goal
-
-pub loop-i-init : goal.loop-i-init
-loop-i-init c = look_none 129 _ _
-
-pub loop-i-preserved : goal.loop-i-preserved
-loop-i-preserved c =
-    let a = c.args in
-    let l = c.loop-i in
-    let long : length a.one.now ≡ 129 = omega arith in
-    let as_long : length a.other.now ≡ 129 = omega arith in
-    look_next 129 _ _ l.same l.i long as_long l.invariant _ c.loop-i-test.true c.both-same.ensures
 
 pub returns : goal.returns
 returns c =
-    let a = c.args in
-    let l = c.loop-i in
-    let long : length a.one.now ≡ 129 = omega arith in
-    let as_long : length a.other.now ≡ 129 = omega arith in
-    rw (words_are a.one.now, words_are a.other.now)
-    (exactly wheels _ _ _ (look_all 129 _ _ l.same l.i long as_long l.invariant c.loop-i-test.false))
+    let e : (c.eq.result ≡ true → c.args.one.now ≡ c.args.other.now) × (c.args.one.now ≡ c.args.other.now → c.eq.result ≡ true) = search rules in
+    rw (words_are c.args.one.now, words_are c.args.other.now) (λ q. ap made (e.0 q), λ q. e.1 (ap (λ (w : Wheel). w.words) q))

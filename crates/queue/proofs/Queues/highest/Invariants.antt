@@ -7,6 +7,3 @@ use Rattle.queue.proofs.Queues.highest.Given as goal
 
 abbrev pub invariant-loop-passed : goal.invariant-loop-passed
 invariant-loop-passed l = (l.passed ≤ 16) × (highest_model l.self ≡ highest_below (has_first l.self) 16 (16 - l.passed))
-
-abbrev pub decreases-loop-passed : goal.decreases-loop-passed
-decreases-loop-passed l = 16 - l.passed
