@@ -191,12 +191,5 @@ pub fn owned_one(row: Mutex, t: u8) -> u8
 pub fn owned_by(mutexes: MutexTable, t: u8) -> u8
     ensures { result ≡ owned_in mutexes t }
 {
-    let mut owned: u8 = 0;
-    let mut i: usize = 0;
-    while i < MUTEX_ROWS {
-        let row = mutexes[i];
-        owned += owned_one(row, t);
-        i += 1;
-    }
-    owned
+    mutexes.iter().filter(|row| row.owner == t).count() as u8
 }

@@ -80,13 +80,9 @@ pub fn ceiling_for(row: Mutex, t: u8) -> u8
 pub fn highest_ceiling(mutexes: MutexTable, t: u8) -> u8
     ensures { result ≡ highest_in mutexes t }
 {
-    let mut best: u8 = 0;
-    let mut i: usize = 0;
-    while i < MUTEX_ROWS {
-        let row = mutexes[i];
-        let ceiling = ceiling_for(row, t);
-        best = larger(best, ceiling);
-        i += 1;
+    let mut best = 0;
+    for row in &mutexes {
+        best = larger(best, ceiling_for(*row, t));
     }
     best
 }
@@ -344,16 +340,16 @@ impl Scheduler {
         ensures { result ≡ broadcast_model 32 0 self c }
     {
         let mut scheduler = self;
-        let mut left: u16 = 0;
-        while left < SIGNALS {
+        for left in 0..SIGNALS {
             let signalled = scheduler.signal(c);
             if signalled.left == 0 {
                 return Signalled { scheduler, left };
             }
-            let after = signalled.scheduler;
-            scheduler = after;
-            left += 1;
+            scheduler = signalled.scheduler;
         }
-        Signalled { scheduler, left }
+        Signalled {
+            scheduler,
+            left: SIGNALS,
+        }
     }
 }

@@ -1,7 +1,7 @@
 -- `Scheduler::broadcast` is its definition. The invariant: going on from here gives what the whole gives. The measure is how many may still leave. Assumes nothing.
-use mathlib.Core.Path.{refl, sym, ◌∙◌}
+use mathlib.Core.Path.{◌≡◌, refl, sym, ap, ◌∙◌}
 use native.Mathlib.Omega.{arith}
-use Rattle.value_effects.proofs.Broadcasting.{broadcast_on, broadcast_none, broadcast_all}
+use Rattle.value_effects.proofs.Broadcasting.{on_from, broadcast_on, broadcast_none, broadcast_all}
 use Rattle.value_effects.proofs.Scheduler.broadcast.Goals as goal
 
 pub loop-left-init : goal.loop-left-init
@@ -22,4 +22,5 @@ loop-left-preserved c =
 pub returns : goal.returns
 returns c =
     let l = c.loop-left in
-    sym (broadcast_all l.scheduler _ l.left (omega arith)) ∙ l.invariant.1
+    let e : l.left ≡ 32 = omega arith in
+    sym (broadcast_all l.scheduler _ 32 (omega arith)) ∙ ap (λ n. on_from n l.scheduler c.args.c) (sym e) ∙ l.invariant.1
