@@ -1,14 +1,16 @@
--- One step of the count of the mutexes that a thread owns, and its end.
+-- The count of the mutexes that a thread owns: the library's count of what passes a test, and one step of a count by hand, and its end.
 -- Assumes nothing.
 use Prim.Native.Nat.{ℕ, ◌+◌, ◌<◌, ◌≤◌}
-use mathlib.Core.Path.{◌≡◌}
+use mathlib.Core.Path.{◌≡◌, refl, ap, ◌∙◌}
 use mathlib.Core.Bool.{Bool, true, false, cond}
-use mathlib.Core.List.{List}
+use mathlib.Core.List.{List, [], ◌∷◌}
 use native.Mathlib.Numerals.{add-one}
 use native.Mathlib.Omega.{arith}
 use lib.ListN.{length, get_or, drop, drop_of_length-le}
 use lib.Seq.{drop-cons}
 use lib.Dec.{eqb}
+use Rattle.std.specs.Prelude.{◌==◌, count_by}
+use Rattle.std.proofs.lemmas.List.Sums.{sum_by-cons}
 use Rattle.value_effects.specs.declared.Mutex.{Mutex}
 use Rattle.value_effects.specs.Effects.{no_mutex}
 use Rattle.refusals.specs.Verdicts.{owned_one, owned_in}
@@ -32,3 +34,9 @@ count_on l t owned i h = rw (add-one i, drop-cons l i no_mutex h) (omega arith)
 pub count_done : (l : List Mutex) (t owned i : ℕ) → length l ≤ i → owned + owned_in (drop i l) t ≡ owned
 unfolding owned_in
 count_done l t owned i h = rw (drop_of_length-le l h) (omega arith)
+
+-- what passes the test of the owner is the count
+pub counted : (l : List Mutex) (t : ℕ) → count_by (λ (row : Mutex). row.owner == t) l ≡ owned_in l t
+unfolding owned_one owned_in
+counted [] t = refl
+counted (m ∷ l) t = sum_by-cons (λ (row : Mutex). cond (row.owner == t) 1 0) m l ∙ ap (λ n. cond (eqb m.owner t) 1 0 + n) (counted l t)

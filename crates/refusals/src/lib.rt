@@ -5,7 +5,7 @@ ghost use Rattle.std.specs.Prelude.{◌≡◌};
 ghost use Rattle.refusals.specs.Verdicts.{created_verdict, room_verdict, start_verdict, acquire_verdict, release_verdict, held_verdict, ids_verdict, first_verdict, id_verdict, start_timer_verdict, stop_verdict, owned_one, owned_in};
 
 use calls::{Verdict, number};
-use limits::{HIGHEST, MOST_COUNT, MUTEX_ROWS, NONE, STOPPED};
+use limits::{HIGHEST, MOST_COUNT, NONE, STOPPED};
 use value_effects::{Mutex, MutexTable};
 
 // Whether a thread or a mutex can be created.

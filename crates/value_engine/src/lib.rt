@@ -454,19 +454,18 @@ impl Engine {
     {
         let mut engine = self;
         let mut left = due;
-        let mut given: u16 = 0;
-        while given < EXPIRIES {
+        for given in 0..EXPIRIES {
             let id = left.first();
             if TIMERS <= id {
                 return Effect { engine, given };
             }
-            let after = engine.serve(id);
-            engine = after;
-            let next = left.rest();
-            left = next;
-            given += 1;
+            engine = engine.serve(id);
+            left = left.rest();
         }
-        Effect { engine, given }
+        Effect {
+            engine,
+            given: EXPIRIES,
+        }
     }
 
     // Call 13.

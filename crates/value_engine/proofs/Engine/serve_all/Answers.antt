@@ -1,8 +1,8 @@
 -- `Engine::serve_all` is its definition. The invariant: going on from here gives what the whole gives. The measure is how many may still be served. Assumes nothing.
-use mathlib.Core.Path.{refl, sym, ◌∙◌}
+use mathlib.Core.Path.{◌≡◌, refl, sym, ap, ◌∙◌}
 use native.Mathlib.Omega.{arith}
 use Rattle.wheel.specs.Promise.{ids_of}
-use Rattle.value_engine.proofs.Serving.{serve_on, serve_none, serve_full}
+use Rattle.value_engine.proofs.Serving.{on_from, serve_on, serve_none, serve_full}
 use Rattle.value_engine.proofs.Engine.serve_all.Goals as goal
 
 pub loop-given-init : goal.loop-given-init
@@ -19,9 +19,10 @@ loop-given-preserved c =
     let l = c.loop-given in
     let e = c.first-id.ensures in
     let one = rw e at c.if-id-ge-TIMERS.false in
-    (omega arith, rw (c.rest-next.ensures.ids, c.serve-after.ensures, e) (sym (serve_on l.engine (ids_of l.left) l.given c.loop-given-test.true one) ∙ l.invariant.1))
+    (omega arith, rw (c.rest-left.ensures.ids, c.serve-engine.ensures, e) (sym (serve_on l.engine (ids_of l.left) l.given c.loop-given-test.true one) ∙ l.invariant.1))
 
 pub returns : goal.returns
 returns c =
     let l = c.loop-given in
-    sym (serve_full l.engine (ids_of l.left) l.given c.loop-given-test.false) ∙ l.invariant.1
+    let e : l.given ≡ 32 = omega arith in
+    sym (serve_full l.engine (ids_of l.left) 32 (omega arith)) ∙ ap (λ n. on_from n l.engine (ids_of l.left)) (sym e) ∙ l.invariant.1
