@@ -1,5 +1,7 @@
 // The thirteen calls, a row of 8 bytes taken apart into its call, and the answers with document 01's numbers.
-ghost use Rattle.std.specs.Prelude.{◌≡◌};
+#![tactic(auto)]
+
+ghost use Rattle.std.specs.Prelude.{◌≡◌, eqb};
 ghost use Rattle.calls.specs.Answers.{number_of};
 ghost use Rattle.calls.specs.Rows.{fits, taken, kind_of, v_of, decoded};
 
@@ -126,6 +128,15 @@ const NAMES_ALL: Named = Named {
     kind: true,
     v: true,
 };
+
+impl Verdict {
+    // Whether nothing refuses the call: document 01's number is 0.
+    pub fn is_done(self) -> bool
+        ensures { result ≡ eqb (number_of self) 0 }
+    {
+        matches!(self, Verdict::Done)
+    }
+}
 
 // The number v of a row, low byte first.
 fn number_of_row(row: Row) -> u32

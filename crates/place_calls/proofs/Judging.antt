@@ -1,9 +1,9 @@
 -- A call by its verdict: refused with nothing changed, or its effect and then the choice of the next thread.
 -- Assumes nothing.
 use Prim.Native.Nat.{ℕ}
-use mathlib.Core.Path.{◌≡◌, refl, sym, ap, ◌∙◌}
+use mathlib.Core.Path.{◌≡◌, refl, ap, ◌∙◌}
 use mathlib.Core.Bool.{Bool, true, false, cond}
-use borrow.Author.Tests.{eq-eqb, ne_eqb}
+use lib.Dec.{eqb}
 use Rattle.calls.specs.declared.Answer.{Answer}
 use Rattle.calls.specs.declared.Verdict.{Verdict}
 use Rattle.calls.specs.Answers.{number_of}
@@ -39,16 +39,16 @@ finished x y given tick e = ap put e ∙ by_test x.started
 
 -- ---- verdicts
 
--- a verdict v that is the definition's w, and its number n
-module _ (x : Engine) (given n : ℕ) (v w : Verdict) (counted : n ≡ number_of v) (same : v ≡ w) where
+-- a verdict v that is the definition's w, and whether it is done
+module _ (x : Engine) (given : ℕ) (done : Bool) (v w : Verdict) (asked : done ≡ eqb (number_of v) 0) (same : v ≡ w) where
   -- refused
-  pub refused : (e : Engine) (a : Answer) → a ≡ record { number = number_of v; given = 255; running = x.scheduler.running } → (n ≡ 0 → ⊥) → record { engine = x; answer = a } ≡ judged w x e given
+  pub refused : (e : Engine) (a : Answer) → a ≡ record { number = number_of v; given = 255; running = x.scheduler.running } → done ≡ false → record { engine = x; answer = a } ≡ judged w x e given
   unfolding refused_model
-  refused e a told h = ap (λ b. record { engine = x; answer = b }) told ∙ rw (← same, ne_eqb (number_of v) 0 (λ z. h (counted ∙ z))) refl
+  refused e a told h = ap (λ b. record { engine = x; answer = b }) told ∙ rw (← same, ← asked, h) refl
 
   -- accepted, with the effect done by another engine's state
-  pub accepted : (e f : Engine) (y : Stepped) → y ≡ answered_model f given false → f ≡ e → n ≡ 0 → y ≡ judged w x e given
-  accepted e f y told done h = told ∙ ap (λ z. answered_model z given false) done ∙ rw (← same, eq-eqb (number_of v) 0 (sym counted ∙ h)) refl
+  pub accepted : (e f : Engine) (y : Stepped) → y ≡ answered_model f given false → f ≡ e → done ≡ true → y ≡ judged w x e given
+  accepted e f y told made h = told ∙ ap (λ z. answered_model z given false) made ∙ rw (← same, ← asked, h) refl
 
 -- ---- what was read for a verdict is what the definition reads
 

@@ -77,8 +77,7 @@ pub fn acquire(cells: &mut Cells, counts: Counts, m: u8) -> Answer
         row,
         caller.priority,
     );
-    let n = number(verdict);
-    if n != 0 {
+    if !verdict.is_done() {
         return refuse(cells, verdict);
     }
     place_effects::acquire(cells, m);
@@ -92,8 +91,7 @@ pub fn release(cells: &mut Cells, counts: Counts, m: u8) -> Answer
     let running = running_at(cells);
     let row = mutex_at(cells, m);
     let verdict = release_verdict(counts.started, counts.mutexes, m, running, row.owner);
-    let n = number(verdict);
-    if n != 0 {
+    if !verdict.is_done() {
         return refuse(cells, verdict);
     }
     place_effects::release(cells, m);
@@ -111,8 +109,7 @@ pub fn wait(cells: &mut Cells, counts: Counts, c: u8, m: u8) -> Answer
     let ids = ids_verdict(counts.started, counts.conditions, c, counts.mutexes, m);
     let held = held_verdict(m, running, row, owned, tie);
     let verdict = first_of(ids, held);
-    let n = number(verdict);
-    if n != 0 {
+    if !verdict.is_done() {
         return refuse(cells, verdict);
     }
     place_effects::wait(cells, c, m);
@@ -124,8 +121,7 @@ pub fn signal(cells: &mut Cells, counts: Counts, c: u8) -> Answer
     ensures { (timing : Timing) → stepped_in cells.new timing counts result ≡ signal_model (engine_in cells.old timing counts) c }
 {
     let verdict = id_verdict(counts.started, counts.conditions, c);
-    let n = number(verdict);
-    if n != 0 {
+    if !verdict.is_done() {
         return refuse(cells, verdict);
     }
     let left = place_effects::signal(cells, c);
@@ -137,8 +133,7 @@ pub fn broadcast(cells: &mut Cells, counts: Counts, c: u8) -> Answer
     ensures { (timing : Timing) → stepped_in cells.new timing counts result ≡ broadcast_model (engine_in cells.old timing counts) c }
 {
     let verdict = id_verdict(counts.started, counts.conditions, c);
-    let n = number(verdict);
-    if n != 0 {
+    if !verdict.is_done() {
         return refuse(cells, verdict);
     }
     let left = place_effects::broadcast(cells, c);
@@ -157,8 +152,7 @@ pub fn start(cells: &mut Cells, mut counts: Counts) -> Counted
     ensures { (timing : Timing) → stepped_in cells.new timing result.counts result.answer ≡ start_model (engine_in cells.old timing counts) }
 {
     let verdict = start_verdict(counts.started);
-    let n = number(verdict);
-    if n != 0 {
+    if !verdict.is_done() {
         let answer = refuse(cells, verdict);
         return with_answer(counts, answer);
     }
@@ -174,8 +168,7 @@ pub fn create_thread(cells: &mut Cells, mut counts: Counts, base: u8) -> Counted
 {
     let id = counts.threads;
     let verdict = created_verdict(base, id, THREADS);
-    let n = number(verdict);
-    if n != 0 {
+    if !verdict.is_done() {
         let answer = refuse(cells, verdict);
         return with_answer(counts, answer);
     }
@@ -191,8 +184,7 @@ pub fn create_mutex(cells: &mut Cells, mut counts: Counts, ceiling: u8) -> Count
 {
     let id = counts.mutexes;
     let verdict = created_verdict(ceiling, id, MUTEXES);
-    let n = number(verdict);
-    if n != 0 {
+    if !verdict.is_done() {
         let answer = refuse(cells, verdict);
         return with_answer(counts, answer);
     }
@@ -208,8 +200,7 @@ pub fn create_condition(cells: &mut Cells, mut counts: Counts) -> Counted
 {
     let id = counts.conditions;
     let verdict = room_verdict(id, CONDITIONS);
-    let n = number(verdict);
-    if n != 0 {
+    if !verdict.is_done() {
         let answer = refuse(cells, verdict);
         return with_answer(counts, answer);
     }
@@ -224,8 +215,7 @@ pub fn create_timer(cells: &mut Cells, mut counts: Counts) -> Counted
 {
     let id = counts.timercount;
     let verdict = room_verdict(id, TIMERS);
-    let n = number(verdict);
-    if n != 0 {
+    if !verdict.is_done() {
         let answer = refuse(cells, verdict);
         return with_answer(counts, answer);
     }

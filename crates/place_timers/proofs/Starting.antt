@@ -3,8 +3,10 @@
 use Rattle.std.specs.Prelude.{Option, Some, None}
 use Prim.Native.Nat.{ℕ}
 use mathlib.Core.Path.{◌≡◌, refl, sym, ap, ◌∙◌}
-use mathlib.Core.Bool.{false}
+use mathlib.Core.Bool.{Bool, true, false}
 use native.Mathlib.Omega.{arith}
+use lib.Dec.{eqb}
+use borrow.Author.Tests.{ne_eqb}
 use Rattle.units.specs.declared.Micros.{Micros}
 use Rattle.units.specs.declared.Ticks.{Ticks}
 use Rattle.units.specs.Units.{length_of}
@@ -33,11 +35,11 @@ module _ (x : Engine) (id c : ℕ) (kind : Kind) (v : Micros) (ids verdict : Ver
   start_out_of_range a out told answer =
       let delay : OutOfRange ≡ delay_verdict (length_of v) (timer_of x id).state = ap (λ m. delay_verdict m (timer_of x id).state) (sym out ∙ long) in
       let same : verdict ≡ judgement = told ∙ (λ i. first_verdict (read i) (delay i)) in
-      refused x 255 (number_of verdict) verdict judgement refl same (timer_started x id c kind (length_of v)) a answer
-      (λ z. first_refuses ids OutOfRange (λ e. omega (arith, e)) (sym (ap number_of told) ∙ z))
+      refused x 255 false verdict judgement (sym (ne_eqb (number_of verdict) 0 (λ z. first_refuses ids OutOfRange (λ e. omega (arith, e)) (sym (ap number_of told) ∙ z)))) same
+      (timer_started x id c kind (length_of v)) a answer refl
 
   -- in range, n ticks
-  module _ (n : Ticks) (number : ℕ) (stopped : Verdict) (whole : l ≡ Some n) (state : stopped ≡ start_timer_verdict (timer_of x id).state) (told : verdict ≡ first_verdict ids stopped) (counted : number ≡ number_of verdict) where
+  module _ (n : Ticks) (settled : Bool) (stopped : Verdict) (whole : l ≡ Some n) (state : stopped ≡ start_timer_verdict (timer_of x id).state) (told : verdict ≡ first_verdict ids stopped) (asked : settled ≡ eqb (number_of verdict) 0) where
     judged_so : verdict ≡ judgement
     unfolding delay_verdict
     judged_so =
@@ -45,11 +47,11 @@ module _ (x : Engine) (id c : ℕ) (kind : Kind) (v : Micros) (ids verdict : Ver
         told ∙ (λ i. first_verdict (read i) ((state ∙ delay) i))
 
     -- refused
-    pub start_refused : (a : Answer) → a ≡ record { number = number_of verdict; given = 255; running = x.scheduler.running } → (number ≡ 0 → ⊥) → record { engine = x; answer = a } ≡ start_timer_model x id c kind v
+    pub start_refused : (a : Answer) → a ≡ record { number = number_of verdict; given = 255; running = x.scheduler.running } → settled ≡ false → record { engine = x; answer = a } ≡ start_timer_model x id c kind v
     unfolding start_timer_model
-    start_refused a answer some = refused x 255 number verdict judgement counted judged_so (timer_started x id c kind (length_of v)) a answer some
+    start_refused a answer some = refused x 255 settled verdict judgement asked judged_so (timer_started x id c kind (length_of v)) a answer some
 
     -- done
-    pub start_done : (f : Engine) (y : Stepped) → y ≡ answered_model f 255 false → f ≡ timer_started x id c kind (Some n) → number ≡ 0 → y ≡ start_timer_model x id c kind v
+    pub start_done : (f : Engine) (y : Stepped) → y ≡ answered_model f 255 false → f ≡ timer_started x id c kind (Some n) → settled ≡ true → y ≡ start_timer_model x id c kind v
     unfolding start_timer_model
-    start_done f y answer made none = accepted x 255 number verdict judgement counted judged_so (timer_started x id c kind (length_of v)) f y answer (made ∙ ap (timer_started x id c kind) (sym whole ∙ long)) none
+    start_done f y answer made none = accepted x 255 settled verdict judgement asked judged_so (timer_started x id c kind (length_of v)) f y answer (made ∙ ap (timer_started x id c kind) (sym whole ∙ long)) none

@@ -39,8 +39,7 @@ pub fn start_timer(
     };
     let stopped = start_timer_verdict(row.state);
     let verdict = first_of(ids, stopped);
-    let n = number(verdict);
-    if n != 0 {
+    if !verdict.is_done() {
         return refuse(cells, verdict);
     }
     let state = state_of(kind);
@@ -79,8 +78,7 @@ pub fn stop_timer(
     let ids = id_verdict(counts.started, counts.timercount, id);
     let state = stop_verdict(row.state);
     let verdict = first_of(ids, state);
-    let n = number(verdict);
-    if n != 0 {
+    if !verdict.is_done() {
         return refuse(cells, verdict);
     }
     let given = timer_stopped(clock, wheel, id);

@@ -4,7 +4,7 @@
 ghost use Rattle.std.specs.Prelude.{◌≡◌};
 ghost use Rattle.refusals.specs.Verdicts.{created_verdict, room_verdict, start_verdict, acquire_verdict, release_verdict, held_verdict, ids_verdict, first_verdict, id_verdict, start_timer_verdict, stop_verdict, owned_one, owned_in};
 
-use calls::{Verdict, number};
+use calls::Verdict;
 use limits::{HIGHEST, MOST_COUNT, NONE, STOPPED};
 use value_effects::{Mutex, MutexTable};
 
@@ -137,8 +137,7 @@ pub fn ids_verdict(started: bool, first: u8, i: u8, second: u8, j: u8) -> Verdic
 pub fn first_of(a: Verdict, b: Verdict) -> Verdict
     ensures { result ≡ first_verdict a b }
 {
-    let n = number(a);
-    if n == 0 {
+    if a.is_done() {
         return b;
     }
     a

@@ -198,8 +198,7 @@ impl Engine {
         ensures { result ≡ start_model self }
     {
         let verdict = start_verdict(self.started);
-        let n = number(verdict);
-        if n != 0 {
+        if !verdict.is_done() {
             return self.refused(verdict);
         }
         let scheduler = self.scheduler;
@@ -215,8 +214,7 @@ impl Engine {
     {
         let id = self.threads;
         let verdict = created_verdict(base, id, THREADS);
-        let n = number(verdict);
-        if n != 0 {
+        if !verdict.is_done() {
             return self.refused(verdict);
         }
         let scheduler = self.scheduler;
@@ -232,8 +230,7 @@ impl Engine {
     {
         let id = self.mutexes;
         let verdict = created_verdict(ceiling, id, MUTEXES);
-        let n = number(verdict);
-        if n != 0 {
+        if !verdict.is_done() {
             return self.refused(verdict);
         }
         let scheduler = self.scheduler;
@@ -249,8 +246,7 @@ impl Engine {
     {
         let id = self.conditions;
         let verdict = room_verdict(id, CONDITIONS);
-        let n = number(verdict);
-        if n != 0 {
+        if !verdict.is_done() {
             return self.refused(verdict);
         }
         self.conditions = id % CONDITIONS + 1;
@@ -263,8 +259,7 @@ impl Engine {
     {
         let id = self.timercount;
         let verdict = room_verdict(id, TIMERS);
-        let n = number(verdict);
-        if n != 0 {
+        if !verdict.is_done() {
             return self.refused(verdict);
         }
         self.timercount = id % TIMERS + 1;
@@ -281,8 +276,7 @@ impl Engine {
         let row = scheduler.mutexes[i];
         let caller = scheduler.row(running);
         let verdict = acquire_verdict(self.started, self.mutexes, m, running, row, caller.priority);
-        let n = number(verdict);
-        if n != 0 {
+        if !verdict.is_done() {
             return self.refused(verdict);
         }
         let after = scheduler.acquire(m);
@@ -298,8 +292,7 @@ impl Engine {
         let i = (m % MUTEXES) as usize;
         let row = scheduler.mutexes[i];
         let verdict = release_verdict(self.started, self.mutexes, m, scheduler.running, row.owner);
-        let n = number(verdict);
-        if n != 0 {
+        if !verdict.is_done() {
             return self.refused(verdict);
         }
         let after = scheduler.release(m);
@@ -322,8 +315,7 @@ impl Engine {
         let ids = ids_verdict(self.started, self.conditions, c, self.mutexes, m);
         let held = held_verdict(m, running, row, owned, tie);
         let verdict = first_of(ids, held);
-        let n = number(verdict);
-        if n != 0 {
+        if !verdict.is_done() {
             return self.refused(verdict);
         }
         let after = scheduler.wait(c, m);
@@ -336,8 +328,7 @@ impl Engine {
         ensures { result ≡ signal_model self c }
     {
         let verdict = id_verdict(self.started, self.conditions, c);
-        let n = number(verdict);
-        if n != 0 {
+        if !verdict.is_done() {
             return self.refused(verdict);
         }
         let scheduler = self.scheduler;
@@ -352,8 +343,7 @@ impl Engine {
         ensures { result ≡ broadcast_model self c }
     {
         let verdict = id_verdict(self.started, self.conditions, c);
-        let n = number(verdict);
-        if n != 0 {
+        if !verdict.is_done() {
             return self.refused(verdict);
         }
         let scheduler = self.scheduler;
@@ -376,8 +366,7 @@ impl Engine {
         };
         let stopped = start_timer_verdict(row.state);
         let verdict = first_of(ids, stopped);
-        let n = number(verdict);
-        if n != 0 {
+        if !verdict.is_done() {
             return self.refused(verdict);
         }
         let state = state_of(kind);
@@ -419,8 +408,7 @@ impl Engine {
         let ids = id_verdict(self.started, self.timercount, id);
         let state = stop_verdict(row.state);
         let verdict = first_of(ids, state);
-        let n = number(verdict);
-        if n != 0 {
+        if !verdict.is_done() {
             return self.refused(verdict);
         }
         let effect = self.timer_stopped(id);

@@ -8,14 +8,14 @@ use Rattle.place_calls.specs.Standing.{engine_in, stepped_in}
 use Rattle.place_calls.proofs.Judging.{refused, accepted}
 use Rattle.place_calls.proofs.create_condition.Goals as goal
 
-pub returns-then-n-ne0 : goal.returns-then-n-ne0
+pub returns-then-not-is_done : goal.returns-then-not-is_done
 unfolding create_condition_model
-returns-then-n-ne0 c =
+returns-then-not-is_done c =
     λ timing.
     let a = c.args in
     let x = engine_in a.cells.now timing a.counts in
     ap (λ (r : Counted). stepped_in a.cells.now timing r.counts r.answer) c.with_answer.ensures
-    ∙ refused x a.counts.conditions _ _ _ c.number-n.ensures c.room_verdict-verdict.ensures _ _ c.refuse-answer.ensures c.if-n-ne0.true
+    ∙ refused x a.counts.conditions _ _ _ c.is_done.ensures c.room_verdict-verdict.ensures _ _ c.refuse-answer.ensures c.if-not-is_done.true
 
 pub returns : goal.returns
 unfolding create_condition_model
@@ -25,4 +25,4 @@ returns c =
     let x = engine_in a.cells.now timing a.counts in
     let n : Counts = record { started = a.counts.started; threads = a.counts.threads; mutexes = a.counts.mutexes; conditions = a.counts.conditions % 16 + 1; timercount = a.counts.timercount } in
     ap (λ (r : Counted). stepped_in c.finish-answer.new.cells timing r.counts r.answer) c.with_answer-2.ensures
-    ∙ accepted x a.counts.conditions _ _ _ c.number-n.ensures c.room_verdict-verdict.ensures _ _ _ (c.finish-answer.ensures timing) refl c.if-n-ne0.false
+    ∙ accepted x a.counts.conditions _ _ _ c.is_done.ensures c.room_verdict-verdict.ensures _ _ _ (c.finish-answer.ensures timing) refl c.if-not-is_done.false

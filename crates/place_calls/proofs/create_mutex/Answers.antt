@@ -8,14 +8,14 @@ use Rattle.place_calls.specs.Standing.{engine_in, stepped_in}
 use Rattle.place_calls.proofs.Judging.{refused, accepted}
 use Rattle.place_calls.proofs.create_mutex.Goals as goal
 
-pub returns-then-n-ne0 : goal.returns-then-n-ne0
+pub returns-then-not-is_done : goal.returns-then-not-is_done
 unfolding create_mutex_model
-returns-then-n-ne0 c =
+returns-then-not-is_done c =
     λ timing.
     let a = c.args in
     let x = engine_in a.cells.now timing a.counts in
     ap (λ (r : Counted). stepped_in a.cells.now timing r.counts r.answer) c.with_answer.ensures
-    ∙ refused x a.counts.mutexes _ _ _ c.number-n.ensures c.created_verdict-verdict.ensures _ _ c.refuse-answer.ensures c.if-n-ne0.true
+    ∙ refused x a.counts.mutexes _ _ _ c.is_done.ensures c.created_verdict-verdict.ensures _ _ c.refuse-answer.ensures c.if-not-is_done.true
 
 pub returns : goal.returns
 unfolding create_mutex_model
@@ -25,4 +25,4 @@ returns c =
     let x = engine_in a.cells.now timing a.counts in
     let n : Counts = record { started = a.counts.started; threads = a.counts.threads; mutexes = a.counts.mutexes % 16 + 1; conditions = a.counts.conditions; timercount = a.counts.timercount } in
     ap (λ (r : Counted). stepped_in c.finish-answer.new.cells timing r.counts r.answer) c.with_answer-2.ensures
-    ∙ accepted x a.counts.mutexes _ _ _ c.number-n.ensures c.created_verdict-verdict.ensures _ _ _ (c.finish-answer.ensures timing) (ap (with_scheduler (engine_in c.create_mutex.new.cells timing n)) c.create_mutex.ensures) c.if-n-ne0.false
+    ∙ accepted x a.counts.mutexes _ _ _ c.is_done.ensures c.created_verdict-verdict.ensures _ _ _ (c.finish-answer.ensures timing) (ap (with_scheduler (engine_in c.create_mutex.new.cells timing n)) c.create_mutex.ensures) c.if-not-is_done.false

@@ -1,14 +1,13 @@
 -- `Engine::broadcast` meets its contract: by its verdict, and each call by its own. Assumes nothing.
-use borrow.Author.Tests.{eq-eqb, ne_eqb}
 use Rattle.value_engine.specs.Engines.{broadcast_model}
 use Rattle.value_engine.proofs.Engine.broadcast.Goals as goal
 
-pub returns-then-n-ne0 : goal.returns-then-n-ne0
+pub returns-then-not-is_done : goal.returns-then-not-is_done
 unfolding broadcast_model
-returns-then-n-ne0 c =
-    rw (← c.id_verdict-verdict.ensures, ← c.number-n.ensures, ne_eqb _ _ c.if-n-ne0.true) c.refused.ensures
+returns-then-not-is_done c =
+    rw (← c.id_verdict-verdict.ensures, ← c.is_done.ensures, c.if-not-is_done.true) c.refused.ensures
 
 pub returns : goal.returns
 unfolding broadcast_model
 returns c =
-    rw (← c.id_verdict-verdict.ensures, ← c.number-n.ensures, eq-eqb _ _ c.if-n-ne0.false, ← c.broadcast-woken.ensures) c.answered.ensures
+    rw (← c.id_verdict-verdict.ensures, ← c.is_done.ensures, c.if-not-is_done.false, ← c.broadcast-woken.ensures) c.answered.ensures

@@ -1,14 +1,13 @@
 -- `Engine::create_timer` meets its contract: by its verdict, and each call by its own. Assumes nothing.
-use borrow.Author.Tests.{eq-eqb, ne_eqb}
 use Rattle.value_engine.specs.Engines.{create_timer_model}
 use Rattle.value_engine.proofs.Engine.create_timer.Goals as goal
 
-pub returns-then-n-ne0 : goal.returns-then-n-ne0
+pub returns-then-not-is_done : goal.returns-then-not-is_done
 unfolding create_timer_model
-returns-then-n-ne0 c =
-    rw (← c.room_verdict-verdict.ensures, ← c.number-n.ensures, ne_eqb _ _ c.if-n-ne0.true) c.refused.ensures
+returns-then-not-is_done c =
+    rw (← c.room_verdict-verdict.ensures, ← c.is_done.ensures, c.if-not-is_done.true) c.refused.ensures
 
 pub returns : goal.returns
 unfolding create_timer_model
 returns c =
-    rw (← c.room_verdict-verdict.ensures, ← c.number-n.ensures, eq-eqb _ _ c.if-n-ne0.false) c.answered.ensures
+    rw (← c.room_verdict-verdict.ensures, ← c.is_done.ensures, c.if-not-is_done.false) c.answered.ensures
