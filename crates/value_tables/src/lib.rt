@@ -4,10 +4,12 @@
 #![tactic(auto)]
 
 ghost use Rattle.std.specs.Prelude.{◌≡◌};
-ghost use Rattle.value_tables.specs.Tables.{join_model, join_front_model, depart_model, remove_from_model, head_model, stand_model, lift_model, arrive_model, arrive_in_front_model, run_first_model, choose_next_model, wait_model, leave_model_in, remove_model_in};
+ghost use Rattle.queue.specs.declared.Linked.{Linked};
+ghost use Rattle.queue.specs.Linking.{level_model};
+ghost use Rattle.value_tables.specs.Tables.{joined, join_model, join_front_model, depart_model, remove_from_model, head_model, stand_model, lift_model, arrive_model, arrive_in_front_model, run_first_model, choose_next_model, wait_model, leave_model_in, remove_model_in};
 
 use limits::{FOR_MUTEX, NONE, PRIORITIES, READY, RUNNING, THREAD_ROWS, THREADS};
-use queue::{Links, Queues};
+use queue::{Linked, Links, Queue, Queues};
 
 // Links, and one set of queues.
 #[derive(Clone, Copy)]
@@ -66,48 +68,48 @@ pub struct Waiting {
     pub set: Queues,
 }
 
+// The links, and the set with what a change makes of the links and of its queue of priority p.
+fn changed<F: FnOnce(Links, Queue) -> Linked>(links: Links, set: Queues, p: u8, change: F) -> Joined
+    requires { F.pre change links (level_model set p) }
+    ensures { (linked : Linked) × F.post change links (level_model set p) linked × (result ≡ joined set p linked) }
+{
+    let linked = change(links, set.level(p));
+    Joined {
+        links: linked.links,
+        set: set.with_level(p, linked.queue),
+    }
+}
+
 // Thread t arrives at the back of the queue of priority p.
+#[tactic(auto, unfolding(crate::specs::Tables::join_model))]
 pub fn join(links: Links, set: Queues, p: u8, t: u8) -> Joined
     ensures { result ≡ join_model links set p t }
 {
-    let queue = set.level(p);
-    let linked = links.back(queue, t);
-    let after = linked.links;
-    let set = set.with_level(p, linked.queue);
-    Joined { links: after, set }
+    changed(links, set, p, |links, queue| links.back(queue, t))
 }
 
 // Thread t arrives at the front of the queue of priority p.
+#[tactic(auto, unfolding(crate::specs::Tables::join_front_model))]
 fn join_front(links: Links, set: Queues, p: u8, t: u8) -> Joined
     ensures { result ≡ join_front_model links set p t }
 {
-    let queue = set.level(p);
-    let linked = links.front(queue, t);
-    let after = linked.links;
-    let set = set.with_level(p, linked.queue);
-    Joined { links: after, set }
+    changed(links, set, p, |links, queue| links.front(queue, t))
 }
 
 // The first of the queue of priority p leaves.
+#[tactic(auto, unfolding(crate::specs::Tables::depart_model))]
 fn depart(links: Links, set: Queues, p: u8) -> Joined
     ensures { result ≡ depart_model links set p }
 {
-    let queue = set.level(p);
-    let linked = links.leave(queue);
-    let after = linked.links;
-    let set = set.with_level(p, linked.queue);
-    Joined { links: after, set }
+    changed(links, set, p, |links, queue| links.leave(queue))
 }
 
 // Thread t leaves the queue of priority p from wherever it stands there.
+#[tactic(auto, unfolding(crate::specs::Tables::remove_from_model))]
 fn remove(links: Links, set: Queues, p: u8, t: u8) -> Joined
     ensures { result ≡ remove_from_model links set p t }
 {
-    let queue = set.level(p);
-    let linked = links.remove(queue, t);
-    let after = linked.links;
-    let set = set.with_level(p, linked.queue);
-    Joined { links: after, set }
+    changed(links, set, p, |links, queue| links.remove(queue, t))
 }
 
 // The first of the highest non-empty queue.
@@ -124,32 +126,28 @@ pub fn highest_first(set: Queues) -> Head
 
 impl Threads {
     // Thread t stands elsewhere.
+    #[tactic(auto, unfolding(crate::specs::Tables::stand_model))]
     pub fn stand(mut self, t: u8, state: u8, object: u8) -> Threads
         ensures { result ≡ stand_model self t state object }
     {
         let i = (t % THREADS) as usize;
         let row = self.rows[i];
         self.rows[i] = Thread {
-            base: row.base,
-            priority: row.priority,
             state,
             object,
+            ..row
         };
         self
     }
 
     // Thread t has another priority.
+    #[tactic(auto, unfolding(crate::specs::Tables::lift_model))]
     pub fn lift(mut self, t: u8, priority: u8) -> Threads
         ensures { result ≡ lift_model self t priority }
     {
         let i = (t % THREADS) as usize;
         let row = self.rows[i];
-        self.rows[i] = Thread {
-            base: row.base,
-            priority,
-            state: row.state,
-            object: row.object,
-        };
+        self.rows[i] = Thread { priority, ..row };
         self
     }
 
