@@ -114,9 +114,9 @@ impl Scheduler {
         let row = self.mutexes[i];
         let old = row.owner;
         self.mutexes[i] = Mutex {
-            ceiling: row.ceiling,
             owner: t,
             count: n,
+            ..row
         };
         let settled = self.settle(old);
         settled.settle(t)
@@ -128,11 +128,7 @@ impl Scheduler {
     {
         let i = (m % MUTEXES) as usize;
         let row = self.mutexes[i];
-        self.mutexes[i] = Mutex {
-            ceiling: row.ceiling,
-            owner: row.owner,
-            count: n,
-        };
+        self.mutexes[i] = Mutex { count: n, ..row };
         self
     }
 
