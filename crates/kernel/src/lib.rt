@@ -2,14 +2,14 @@
 // back the kernel that follows with its answer.
 #![tactic(auto)]
 
-ghost use Rattle.std.specs.Prelude.{◌≡◌, true, ◌↔◌};
+ghost use Rattle.std.specs.Prelude.{◌≡◌, true, ◌↔◌, Some, None};
 ghost use Rattle.calls.specs.declared.Call.TheVariants.{Start, CreateThread, CreateMutex, CreateCondition, CreateTimer, Acquire, Release, Wait, Signal, Broadcast, StartTimer, StopTimer, Tick};
-ghost use Rattle.std.specs.Prelude.{Some, None};
+ghost use Rattle.calls.specs.Answers.{number_of};
 ghost use Rattle.calls.specs.Rows.{decoded};
 ghost use Rattle.rules.specs.State.{boot};
 ghost use Rattle.kernel.specs.Kernels.{kernel_of, SoundKernel, refusal, Steps};
 
-use calls::{Answer, Call, Kind, Row, decode};
+use calls::{Answer, Call, Kind, Row, Verdict, decode, number};
 use limits::{NONE, NOTHING};
 use sound_engine::judge;
 use units::Micros;
@@ -48,11 +48,11 @@ impl Kernel {
     }
 
     // A refusal of a kernel that is not sound: given and running are 255, and nothing changes.
-    fn refused(mut self, number: u8) -> Stepped
-        ensures { result ≡ refusal self number }
+    fn refused(mut self, verdict: Verdict) -> Stepped
+        ensures { result ≡ refusal self (number_of verdict) }
     {
         let answer = Answer {
-            number,
+            number: number(verdict),
             given: NOTHING,
             running: NONE,
         };
@@ -68,7 +68,7 @@ impl Kernel {
     {
         let right = self.is_sound();
         if !right {
-            return self.refused(1);
+            return self.refused(Verdict::NotSound);
         }
         let engine = self.engine;
         let stepped = engine.step(call);
@@ -87,7 +87,7 @@ impl Kernel {
     {
         let sound = self.is_sound();
         if !sound {
-            return self.refused(17);
+            return self.refused(Verdict::WrongRow);
         }
         let engine = self.engine;
         let stepped = engine.wrong_row();

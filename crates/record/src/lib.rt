@@ -2,9 +2,11 @@
 #![tactic(auto)]
 
 ghost use Rattle.std.specs.Prelude.{◌≡◌};
+ghost use Rattle.calls.specs.Answers.{number_of};
 ghost use Rattle.record_bytes.specs.Loading.{load};
 ghost use Rattle.record.specs.Records.{refused_model, loaded_of, Saves};
 
+use calls::{Verdict, number};
 use kernel::Kernel;
 use page_building::build;
 use record_reading::open;
@@ -30,11 +32,14 @@ pub struct Saved {
 }
 
 // A refused load: the boot state.
-fn refused(answer: u8) -> Loaded
-    ensures { result ≡ refused_model answer }
+fn refused(verdict: Verdict) -> Loaded
+    ensures { result ≡ refused_model (number_of verdict) }
 {
     let kernel = Kernel::boot();
-    Loaded { answer, kernel }
+    Loaded {
+        answer: number(verdict),
+        kernel,
+    }
 }
 
 // The kernel of a record: 15 if it is of wrong form, then 1 if it is not sound.
@@ -43,12 +48,12 @@ pub fn load(bytes: &[u8]) -> Loaded
 {
     let opened = open(bytes);
     if !opened.formed {
-        return refused(15);
+        return refused(Verdict::WrongRecord);
     }
     let page = opened.page;
     let right = sound(page);
     if !right {
-        return refused(1);
+        return refused(Verdict::NotSound);
     }
     let engine = build(page);
     let kernel = Kernel { engine };
@@ -63,7 +68,7 @@ pub fn save(kernel: Kernel, buffer: &mut [u8]) -> Saved
     let judged = judge(engine);
     if !judged.sound {
         return Saved {
-            answer: 1,
+            answer: number(Verdict::NotSound),
             length: 0,
         };
     }
@@ -71,7 +76,7 @@ pub fn save(kernel: Kernel, buffer: &mut [u8]) -> Saved
     let length = total(page);
     if buffer.len() < length as usize {
         return Saved {
-            answer: 16,
+            answer: number(Verdict::BufferShort),
             length: 0,
         };
     }

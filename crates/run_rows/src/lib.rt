@@ -10,7 +10,7 @@ ghost use Rattle.value_engine.specs.Stands.{engine_of, stepped_of};
 ghost use Rattle.place_step.specs.Turning.{wrong_row_model};
 ghost use Rattle.run_rows.specs.Rows.{row_model, row_at};
 
-use calls::{Answer, ROW, Row, decode};
+use calls::{Answer, ROW, Row, Verdict, decode, number};
 use limits::NOTHING;
 use value_engine::{Engine, Stepped};
 
@@ -21,7 +21,7 @@ pub fn wrong_row(engine: Engine) -> Answer
 {
     let scheduler = engine.scheduler;
     Answer {
-        number: 17,
+        number: number(Verdict::WrongRow),
         given: NOTHING,
         running: scheduler.running,
     }

@@ -2,4 +2,4 @@
 use Rattle.record.proofs.refused.Goals as goal
 
 pub returns : goal.returns
-returns c = λ i. record { answer = c.args.answer; kernel = c.boot-kernel.ensures i }
+returns c = λ i. record { answer = c.number.ensures i; kernel = c.boot-kernel.ensures i }
