@@ -2,7 +2,7 @@
 // A file in trouble is said in one line on standard error.
 #![tactic(auto)]
 
-ghost use Rattle.std.specs.Prelude.{◌-◌, ◌≤◌, min, ◌≡◌, length, IfOk};
+ghost use Rattle.std.specs.Prelude.{◌-◌, ◌≤◌, min, ◌≡◌, length, IfOk, MatchResult};
 ghost use Rattle.program_files.specs.Counts.{IsPrefixLen};
 
 use run_text::{TEXT, Text};
@@ -40,66 +40,55 @@ impl System for HostRuntime {
     }
 }
 
-// What was read: how many bytes, and whether a read failed.
+// The error of what the programs do with the system: what failed was said on standard error.
 #[derive(Clone, Copy)]
-pub struct Filled {
+pub struct Said;
+
+// A read failed after so many bytes, and that was said.
+#[derive(Clone, Copy)]
+pub struct Unread {
     pub held: usize,
-    pub failed: bool,
 }
 
-// An argument: its length, and whether it is there, whole.
-#[derive(Clone, Copy)]
-pub struct Word {
-    pub length: usize,
-    pub whole: bool,
+impl From<Unread> for Said {
+    fn from(_unread: Unread) -> Said {
+        Said
+    }
 }
 
 // Writes a line to standard error: what failed, and the error in the system's words, without its number.
-fn fail(rt: &impl System, what: &[u8], error: io::Error) {
+fn say_error(rt: &impl System, what: &[u8], error: io::Error) -> Said {
     let shown: InlineText<ERROR> = InlineText::of(error);
     let text = shown.as_str();
-    let words = match text.split_once(" (os error ") {
-        Some((words, _)) => words,
-        None => text,
-    };
+    let words = text
+        .split_once(" (os error ")
+        .map_or(text, |(words, _)| words);
     complain(rt, what, b": ");
     complain(rt, words.as_bytes(), b"\n");
+    Said
 }
 
-// One read into the buffer from a place on: how many bytes came, 0 at the end of the input.
-fn read_on(input: &mut impl Read, buffer: &mut [u8], from: usize) -> io::Result<usize>
-    ensures { IfOk result (λ held. held ≤ length buffer.new - from) }
-{
-    if buffer.len() < from {
-        return Ok(0);
-    }
-    input.read(&mut buffer[from..])
-}
-
-// Reads until the buffer is full or the input ends, and says it where a read fails.
-pub fn fill(rt: &impl System, input: &mut impl Read, path: &[u8], buffer: &mut [u8]) -> Filled
-    ensures { IsPrefixLen result.held buffer.new }
+// Reads until the buffer is full or the input ends: how many bytes it holds then. A read that fails is said.
+pub fn fill(
+    rt: &impl System,
+    input: &mut impl Read,
+    path: &[u8],
+    buffer: &mut [u8],
+) -> Result<usize, Unread>
+    ensures { MatchResult result (λ held. IsPrefixLen held buffer.new) (λ unread. IsPrefixLen unread.held buffer.new) }
 {
     let mut held: usize = 0;
     while held < buffer.len() {
-        match read_on(input, buffer, held) {
-            Ok(0) => {
-                return Filled {
-                    held,
-                    failed: false,
-                };
-            }
+        match input.read(&mut buffer[held..]) {
+            Ok(0) => break,
             Ok(more) => held += more,
             Err(error) => {
-                fail(rt, path, error);
-                return Filled { held, failed: true };
+                say_error(rt, path, error);
+                return Err(Unread { held });
             }
         }
     }
-    Filled {
-        held,
-        failed: false,
-    }
+    Ok(held)
 }
 
 // How many of the bytes a count takes: all where it is larger.
@@ -107,38 +96,39 @@ pub fn within(count: usize, bytes: &[u8]) -> usize
     ensures counts { IsPrefixLen result bytes.now }
     ensures smaller { result ≡ min count (length bytes.now) }
 {
-    if bytes.len() < count {
-        return bytes.len();
-    }
-    count
+    count.min(bytes.len())
 }
 
-// Writes all the bytes, or says that it fails; whether that was done.
-pub fn write(rt: &impl System, output: &mut impl Write, path: &[u8], bytes: &[u8]) -> bool {
-    match output.write_all(bytes) {
-        Ok(()) => true,
-        Err(error) => {
-            fail(rt, path, error);
-            false
-        }
-    }
+// Writes all the bytes, or says that it fails.
+pub fn write(
+    rt: &impl System,
+    output: &mut impl Write,
+    path: &[u8],
+    bytes: &[u8],
+) -> Result<(), Said> {
+    output
+        .write_all(bytes)
+        .map_err(|error| say_error(rt, path, error))
 }
 
-// Writes a text; whether that was done.
-fn write_text(rt: &impl System, text: Text, output: &mut impl Write, path: &[u8]) -> bool {
-    let bytes = text.bytes;
-    let from = text.from % TEXT;
-    write(rt, output, path, &bytes[from..])
+// Writes a text, or says that it fails.
+fn write_text(
+    rt: &impl System,
+    text: Text,
+    output: &mut impl Write,
+    path: &[u8],
+) -> Result<(), Said> {
+    write(rt, output, path, &text.bytes[text.from % TEXT..])
 }
 
-// Writes a text to standard output; whether that was done.
-pub fn print(rt: &impl System, text: Text) -> bool {
+// Writes a text to standard output, or says that it fails.
+pub fn print(rt: &impl System, text: Text) -> Result<(), Said> {
     write_text(rt, text, &mut io::writer(rt), b"standard output")
 }
 
 // Writes a text to standard error.
 pub fn say(rt: &impl System, text: Text) {
-    write_text(rt, text, &mut rt.errors(), b"standard error");
+    let _ = write_text(rt, text, &mut rt.errors(), b"standard error");
 }
 
 // Writes a line to standard error: a path, and what is wrong with it.
@@ -157,62 +147,37 @@ pub fn argument_count(rt: &impl System) -> usize {
     usize::MAX
 }
 
-// The argument i, put first in the buffer; one that is missing or too long is said.
-pub fn argument(rt: &impl System, i: usize, path: &mut [u8]) -> Word
-    ensures { IsPrefixLen result.length path.new }
+// An argument's error as one of the system's.
+fn error_of(error: FillError) -> io::Error {
+    io::Error::from_raw_os_error(match error {
+        FillError::NotPresent => INVALID,
+        FillError::TooLong => TOO_LONG,
+    })
+}
+
+// The length of the argument i, which is put first in the buffer; one that is missing or too long is said.
+pub fn argument(rt: &impl System, i: usize, path: &mut [u8]) -> Result<usize, Said>
+    ensures { IfOk result (λ length. IsPrefixLen length path.new) }
 {
-    match rt.arg(i, path) {
-        Ok(length) => Word {
-            length,
-            whole: true,
-        },
-        Err(error) => {
-            let number = match error {
-                FillError::NotPresent => INVALID,
-                FillError::TooLong => TOO_LONG,
-            };
-            fail(rt, b"an argument", io::Error::from_raw_os_error(number));
-            Word {
-                length: 0,
-                whole: false,
-            }
-        }
-    }
+    rt.arg(i, path)
+        .map_err(|error| say_error(rt, b"an argument", error_of(error)))
 }
 
 // A path as text. One that is not UTF-8 names no file here.
 fn text_of(path: &[u8]) -> io::Result<&str> {
-    match str::from_utf8(path) {
-        Ok(text) => Ok(text),
-        Err(_) => Err(io::Error::from_raw_os_error(NOT_TEXT)),
-    }
-}
-
-// What was opened, if it was; an error is said.
-fn opened<F: Drop>(rt: &impl System, path: &[u8], file: io::Result<F>) -> Option<F> {
-    match file {
-        Ok(file) => Some(file),
-        Err(error) => {
-            fail(rt, path, error);
-            None
-        }
-    }
+    str::from_utf8(path).map_err(|_| io::Error::from_raw_os_error(NOT_TEXT))
 }
 
 // Opens a file for reading; one that cannot be opened is said.
-pub fn open_input<R: System>(rt: &R, path: &[u8]) -> Option<R::File> {
-    let file = match text_of(path) {
-        Ok(text) => fs::open(rt, text),
-        Err(error) => Err(error),
-    };
-    opened(rt, path, file)
+pub fn open_input<R: System>(rt: &R, path: &[u8]) -> Result<R::File, Said> {
+    text_of(path)
+        .and_then(|text| fs::open(rt, text))
+        .map_err(|error| say_error(rt, path, error))
 }
 
 // Opens a file for writing, emptied or new; one that cannot be opened is said.
-pub fn open_output<R: System>(rt: &R, path: &[u8]) -> Option<R::File> {
-    let file = match text_of(path) {
-        Ok(text) => fs::create(rt, text),
-        Err(error) => Err(error),
-    };
-    opened(rt, path, file)
+pub fn open_output<R: System>(rt: &R, path: &[u8]) -> Result<R::File, Said> {
+    text_of(path)
+        .and_then(|text| fs::create(rt, text))
+        .map_err(|error| say_error(rt, path, error))
 }

@@ -1,11 +1,14 @@
 -- Putting bytes in front of a text, and the line as one list of them.
 -- Assumes nothing.
-use Prim.Native.Nat.{ℕ, zero, suc, ◌+◌, ◌-◌, ◌/◌, ◌%◌, ◌^◌, ◌<◌, ◌≤◌}
+use Prim.Native.Nat.{ℕ, ◌+◌, ◌-◌, ◌/◌, ◌%◌, ◌^◌, ◌<◌, ◌≤◌}
 use mathlib.Core.Path.{◌≡◌, refl, sym, ap, ◌∙◌}
-use mathlib.Core.List.{List, [], ◌∷◌, ◌++◌, append_assoc}
+use mathlib.Core.List.{List, [], ◌∷◌, ◌++◌, append_assoc, reverse}
 use native.Mathlib.Omega.{arith}
-use lib.ListN.{length, take, get_or, replicate, length-append, length-replicate, replicate-append-replicate}
-use lib.Seq.{set_at, take-suc}
+use lib.ListN.{length, replicate, length-append, length-replicate, replicate-append-replicate}
+use lib.Seq.{set_at}
+use Rattle.std.specs.List.{fold}
+use Rattle.std.proofs.lemmas.List.{reverse-append}
+use Rattle.std.proofs.lemmas.List.Sums.{fold-append}
 use Rattle.calls.specs.declared.Answer.{Answer}
 use Rattle.run_text.specs.declared.Text.{Text}
 use Rattle.run_text.specs.Texts.{text_of, put_model, put_all, digits, line_bytes, entry_bytes}
@@ -43,13 +46,12 @@ put_none : (t : Text) → put_all t [] ≡ t
 unfolding put_all
 put_none t = refl
 
--- the last of the first n bytes, and then those before it
-pub put_last : (t : Text) (l : List ℕ) (n : ℕ) → 0 < n → n ≤ length l → put_all t (take n l) ≡ put_all (put_model t (get_or l (n - 1) 0)) (take (n - 1) l)
+-- a list of bytes, put in front one by one from its last to its first
+pub put_backwards : (t : Text) (l : List ℕ) → fold put_model t (reverse l) ≡ put_all t l
 unfolding put_all
-put_last t l zero h k = absurd (omega arith)
-put_last t l (suc n) h k =
-    let one : suc n - 1 ≡ n = omega arith in
-    rw (one, take-suc l n 0 (omega arith)) (put_append t (take n l) (get_or l n 0 ∷ []))
+put_backwards t [] = refl
+put_backwards t (b ∷ l) =
+    ap (fold put_model t) (reverse-append (b ∷ []) l) ∙ fold-append put_model t (reverse l) (b ∷ []) ∙ ap (λ u. put_model u b) (put_backwards t l)
 
 -- one digit, and then the digits of the tenth
 pub number_on : (t : Text) (n : ℕ) → 10 ≤ n → put_all t (digits n) ≡ put_all (put_model t (48 + n % 10)) (digits (n / 10))

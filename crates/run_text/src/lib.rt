@@ -72,8 +72,7 @@ fn put_number(text: Text, n: u64) -> Text
     let mut made = text;
     let mut rest = n;
     while TEN <= rest {
-        let next = put(made, digit(rest));
-        made = next;
+        made = put(made, digit(rest));
         rest /= TEN;
     }
     put(made, digit(rest))
@@ -83,14 +82,7 @@ fn put_number(text: Text, n: u64) -> Text
 fn put_bytes(text: Text, bytes: &[u8]) -> Text
     ensures { result ≡ put_all text bytes.now }
 {
-    let mut made = text;
-    let mut left = bytes.len();
-    while 0 < left {
-        left -= 1;
-        let next = put(made, bytes[left]);
-        made = next;
-    }
-    made
+    bytes.iter().rev().copied().fold(text, put)
 }
 
 // The line of row n: n and the three numbers of the answer, with a blank between, and a line feed.
@@ -153,17 +145,10 @@ pub fn lay(bytes: &[u8], used: usize, output: &mut [u8]) -> usize
     ensures { (result ≡ used_after output.old used bytes.now) × (output.new ≡ collected output.old used bytes.now) }
 {
     let size = bytes.len();
-    if output.len() < size {
+    if output.len() < size || output.len() - size < used {
         return used;
     }
-    if output.len() - size < used {
-        return used;
-    }
-    let mut i: usize = 0;
-    while i < size {
-        output[used + i] = bytes[i];
-        i += 1;
-    }
+    output[used..used + size].copy_from_slice(bytes);
     used + size
 }
 
@@ -171,10 +156,8 @@ pub fn lay(bytes: &[u8], used: usize, output: &mut [u8]) -> usize
 pub fn collect(text: Text, used: usize, output: &mut [u8]) -> usize
     ensures { (result ≡ used_after output.old used (bytes_of text)) × (output.new ≡ collected output.old used (bytes_of text)) }
 {
-    let bytes = text.bytes;
-    let from = text.from;
-    if TEXT < from {
+    if TEXT < text.from {
         return used;
     }
-    lay(&bytes[from..], used, output)
+    lay(&text.bytes[text.from..], used, output)
 }

@@ -7,7 +7,9 @@
 #![tactic(auto)]
 
 use calls::ROW;
-use program_files::{PATH, System, argument, argument_count, fill, open_input, open_output, write};
+use program_files::{
+    PATH, Said, System, argument, argument_count, fill, open_input, open_output, write,
+};
 use program_records::{record_of, start_named, write_record};
 use run_pieces::{BLOCK, Run};
 use std::io;
@@ -16,116 +18,86 @@ use std::io::{Read, Write};
 // The bytes that the text of a piece has room in.
 const OUTPUT: usize = 65536;
 
-// How far a trace has come: the run, and whether it has ended.
-#[derive(Clone, Copy)]
-struct Trace {
-    run: Run,
-    ended: bool,
-}
-
-// Writes the record of a run; whether that was done.
-fn write_reached(rt: &impl System, run: Run, output: &mut impl Write, out: &[u8]) -> bool {
-    write_record(rt, record_of(rt, run), output, out)
-}
-
-// Reads one row, or what is left of one, feeds it to the run and writes the record after it.
-fn trace_row(
-    rt: &impl System,
-    trace: Trace,
-    input: &mut impl Read,
-    calls: &[u8],
-    output: &mut impl Write,
-    out: &[u8],
-) -> Trace {
-    let run = trace.run;
-    let mut block = [0u8; BLOCK];
-    let filled = fill(rt, input, calls, &mut block[..ROW]);
-    let held = filled.held;
-    if filled.failed || held == 0 {
-        return Trace { run, ended: true };
-    }
+// The run after a row, or after what is left of one; its text is not wanted.
+fn after_row(run: Run, block: &[u8; BLOCK], held: usize) -> Run {
     let mut text = [0u8; OUTPUT];
-    let fed = run.feed(&block, held, &mut text);
-    let after = fed.run;
-    let is_written = write_reached(rt, after, output, out);
-    Trace {
-        run: after,
-        ended: !is_written || held < ROW,
-    }
+    run.feed(block, held, &mut text).run
 }
 
-// A proved loop has to end, and nothing says that an input does. So the loop counts its turns down, from a number that no trace uses up.
+// Reads row after row, feeds it to the run and writes the record after it.
+// A proved loop has to end, and nothing says that an input does: so it takes as many turns as no trace uses up.
 fn trace_rows(
     rt: &impl System,
-    run: Run,
+    mut run: Run,
     input: &mut impl Read,
     calls: &[u8],
     output: &mut impl Write,
     out: &[u8],
-) {
-    let mut trace = Trace { run, ended: false };
-    let mut turns = u64::MAX;
-    while turns > 0 && !trace.ended {
-        let next = trace_row(rt, trace, input, calls, output, out);
-        trace = next;
-        turns -= 1;
+) -> Result<(), Said> {
+    for _ in 0..u64::MAX {
+        let mut block = [0u8; BLOCK];
+        let held = fill(rt, input, calls, &mut block[..ROW])?;
+        if held == 0 {
+            break;
+        }
+        run = after_row(run, &block, held);
+        write_record(rt, record_of(rt, run), output, out)?;
+        if held < ROW {
+            break;
+        }
     }
+    Ok(())
 }
 
 // Traces into the file that is named third.
-fn trace_into(rt: &impl System, run: Run, input: &mut impl Read, calls: &[u8]) {
-    let mut path = [0u8; PATH];
-    let word = argument(rt, 3, &mut path);
-    if !word.whole {
-        return;
-    }
-    let length = word.length;
+fn trace_into(rt: &impl System, run: Run, input: &mut impl Read, calls: &[u8]) -> Result<(), Said> {
+    let mut buffer = [0u8; PATH];
+    let length = argument(rt, 3, &mut buffer)?;
+    let out = &buffer[..length];
     let first = record_of(rt, run);
-    let saved = first.saved;
-    if saved.answer != 0 {
-        return;
+    if first.saved.answer != 0 {
+        return Err(Said);
     }
-    if let Some(mut output) = open_output(rt, &path[..length]) {
-        if write_record(rt, first, &mut output, &path[..length]) {
-            trace_rows(rt, run, input, calls, &mut output, &path[..length]);
-        }
-    }
+    let mut output = open_output(rt, out)?;
+    write_record(rt, first, &mut output, out)?;
+    trace_rows(rt, run, input, calls, &mut output, out)
 }
 
 // Traces the calls of the file that is named first.
-fn trace_file(rt: &impl System, run: Run) {
-    let mut path = [0u8; PATH];
-    let word = argument(rt, 1, &mut path);
-    if !word.whole {
-        return;
-    }
-    let length = word.length;
-    if let Some(mut input) = open_input(rt, &path[..length]) {
-        trace_into(rt, run, &mut input, &path[..length]);
-    }
+fn trace_file(rt: &impl System, run: Run) -> Result<(), Said> {
+    let mut buffer = [0u8; PATH];
+    let length = argument(rt, 1, &mut buffer)?;
+    let path = &buffer[..length];
+    let mut input = open_input(rt, path)?;
+    trace_into(rt, run, &mut input, path)
 }
 
 // Writes the one line of a refused run.
-fn tell(rt: &impl System, run: Run) {
+fn tell(rt: &impl System, run: Run) -> Result<(), Said> {
     let mut output = [0u8; OUTPUT];
     let closed = run.close(&mut output);
-    let used = closed.used;
-    write(rt, &mut io::writer(rt), b"standard output", &output[..used]);
+    write(
+        rt,
+        &mut io::writer(rt),
+        b"standard output",
+        &output[..closed.used],
+    )
 }
 
+// Traces from the record that is named second.
+fn trace_from(rt: &impl System) -> Result<(), Said> {
+    let run = start_named(rt, 2)?;
+    if run.answer() != 0 {
+        return tell(rt, run);
+    }
+    trace_file(rt, run)
+}
+
+// What fails is said, and the exit status is 0 all the same.
 fn main(rt: HostRuntime) {
     if argument_count(&rt) != 4 {
         let _ = eprintln!(rt; "usage: trace CALLS START OUT");
         return;
     }
-    let start = start_named(&rt, 2);
-    if !start.ready {
-        return;
-    }
-    let run = start.run;
-    if run.answer() != 0 {
-        tell(&rt, run);
-        return;
-    }
-    trace_file(&rt, run);
+    let _ = trace_from(&rt);
 }

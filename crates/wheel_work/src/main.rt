@@ -8,10 +8,8 @@ use wheel::{WheelWords, empty_words, start, tick};
 
 // The timers from one id up to another started for n ticks.
 fn start_some(wheel: &mut WheelWords, from: u8, to: u8, n: Ticks) {
-    let mut id = from;
-    while id < to {
+    for id in from..to {
         start(wheel, id, n);
-        id += 1;
     }
 }
 
@@ -35,9 +33,7 @@ fn write_line(rt: &impl Print, due: u8, on: u8, all: u8) {
 fn main(rt: HostRuntime) {
     let _ = println!(rt; "on the spoke, in all, visits");
     write_line(&rt, 0, 0, 0);
-    let mut on: u8 = 0;
-    while on <= TIMERS {
+    for on in 0..=TIMERS {
         write_line(&rt, on / 2, on, TIMERS);
-        on += 1;
     }
 }

@@ -7,7 +7,7 @@ use Rattle.run_text.proofs.put_number.Goals as goal
 pub loop-rest-preserved : goal.loop-rest-preserved
 loop-rest-preserved c =
     let l = c.loop-rest in
-    rw (c.put-next.ensures, c.digit.ensures) (sym (number_on l.made l.rest (omega arith)) ∙ l.invariant)
+    rw (c.put-made.ensures, c.digit.ensures) (sym (number_on l.made l.rest (omega arith)) ∙ l.invariant)
 
 pub returns : goal.returns
 returns c =
