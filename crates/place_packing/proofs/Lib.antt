@@ -1,3 +1,4 @@
+pub mod Making
 pub mod Reading
 pub mod Putting
 pub mod Once
