@@ -1,4 +1,3 @@
-pub mod Making
 pub mod Reading
 pub mod Putting
 pub mod Once

@@ -6,7 +6,7 @@ use borrow.Author.Rules.{rules}
 use Rattle.queue.specs.Linking.{empty_queue}
 use Rattle.place_tables.specs.Cells.{queue_in}
 use Rattle.place_tables.proofs.Storing.{queue_read}
-use Rattle.place_packing.proofs.Making.{made}
+use Rattle.laws.proofs.Making.{made}
 use Rattle.place_packing.proofs.levels_in.Goals as goal
 
 pub returns : goal.returns

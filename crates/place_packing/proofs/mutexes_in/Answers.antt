@@ -3,7 +3,7 @@ use mathlib.Core.Path.{◌∙◌}
 use borrow.Author.Rules.{rules}
 use Rattle.value_effects.specs.Effects.{no_mutex}
 use Rattle.place_tables.specs.Cells.{mutex_in}
-use Rattle.place_packing.proofs.Making.{made}
+use Rattle.laws.proofs.Making.{made}
 use Rattle.place_packing.proofs.Reading.{mutex_within}
 use Rattle.place_packing.proofs.mutexes_in.Goals as goal
 

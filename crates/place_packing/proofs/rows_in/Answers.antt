@@ -3,7 +3,7 @@ use mathlib.Core.Path.{◌∙◌}
 use borrow.Author.Rules.{rules}
 use Rattle.value_tables.specs.Tables.{blank}
 use Rattle.place_tables.specs.Cells.{thread_in}
-use Rattle.place_packing.proofs.Making.{made}
+use Rattle.laws.proofs.Making.{made}
 use Rattle.place_packing.proofs.Reading.{thread_within}
 use Rattle.place_packing.proofs.rows_in.Goals as goal
 

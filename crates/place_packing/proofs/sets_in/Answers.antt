@@ -6,7 +6,7 @@ use borrow.Author.Rules.{rules}
 use Rattle.queue.specs.Linking.{empty_queues}
 use Rattle.place_tables.specs.Cells.{set_in}
 use Rattle.place_packing.specs.Tables.{first_set}
-use Rattle.place_packing.proofs.Making.{made}
+use Rattle.laws.proofs.Making.{made}
 use Rattle.place_packing.proofs.Putting.{number}
 use Rattle.place_packing.proofs.sets_in.Goals as goal
 

@@ -2,7 +2,7 @@
 use mathlib.Core.Path.{◌∙◌}
 use borrow.Author.Rules.{rules}
 use Rattle.place_tables.specs.Cells.{tie_in}
-use Rattle.place_packing.proofs.Making.{made}
+use Rattle.laws.proofs.Making.{made}
 use Rattle.place_packing.proofs.Reading.{tie_within}
 use Rattle.place_packing.proofs.ties_in.Goals as goal
 
