@@ -2,13 +2,10 @@
 -- Assumes nothing.
 use mathlib.Core.Path.{◌∙◌}
 use native.Mathlib.Omega.{arith}
-use Rattle.queue.proofs.Searches.{way_begins, way_ends, way_spent, way_found, way_on}
+use Rattle.queue.proofs.Searches.{way_ends, way_spent, way_found, way_on}
 use Rattle.place_tables.specs.Cells.{scheduler_in}
 use Rattle.place_queues.proofs.Joins.{link_read}
 use Rattle.place_queues.proofs.ahead.Goals as goal
-
-pub loop-init : goal.loop-init
-loop-init c = way_begins _ _ _
 
 pub returns-then-met-ge-THREADS : goal.returns-then-met-ge-THREADS
 returns-then-met-ge-THREADS c = way_ends _ _ _ _ _ c.loop.invariant c.if-met-ge-THREADS.true
