@@ -1,15 +1,18 @@
 -- One turn of each loop that builds an engine.
 -- Assumes nothing.
 use Prim.Native.Nat.{ℕ, suc, ◌+◌, ◌-◌, ◌<◌, ◌≤◌, min}
-use mathlib.Core.Path.{◌≡◌, refl, sym, ap, ◌∙◌}
+use mathlib.Core.Path.{◌≡◌, sym, ap, ◌∙◌}
 use mathlib.Core.Bool.{cond}
 use mathlib.Core.List.{List}
 use native.Mathlib.Omega.{arith}
-use lib.ListN.{get_or, set, replicate}
-use lib.Dec.{eqb}
-use borrow.Author.Tests.{eq-eqb, ne_eqb}
+use lib.ListN.{get_or}
+use lib.Dec.{eqb, ltb}
+use borrow.Author.Tests.{eq-eqb, ne_eqb, lt-ltb, le-ltb}
+use Rattle.std.specs.Fn.{Mut, Called}
+use Rattle.std.specs.Array.{IsFromFnResult}
 use Rattle.laws.specs.Filling.{filled}
-use Rattle.laws.proofs.Filling.{fill_none, fill_next}
+use Rattle.laws.proofs.Lists.{by_below, tabulate_below}
+use Rattle.laws.proofs.Making.{made}
 use Rattle.page.specs.declared.ThreadRow.{ThreadRow}
 use Rattle.page.specs.Says.{no_thread_row}
 use Rattle.page_building.specs.Building.{runner_in}
@@ -37,22 +40,13 @@ module _ {A : Type 0} (size : ℕ) (upto : ℕ → A) where
 
 -- ---- tables
 
-module _ {A : Type 0} (size : ℕ) (f : ℕ → A) (d : A) where
-  -- the first rows are filled
-  abbrev pub Filling : ℕ → ℕ → ℕ → List A → Type 0
-  Filling n most i made = Going size (filled size f d) n most i made
-
-  -- none at first
-  pub filling_starts : (n most : ℕ) → most ≡ min n size → Filling n most 0 (replicate size d)
-  filling_starts n most e = going_starts size (filled size f d) n most (replicate size d) e (fill_none size f d)
-
-  -- one more at each turn
-  pub filling_turns : (n most i : ℕ) (made : List A) → Filling n most i made → i < most → Filling n most (i + 1) (set made i (f i))
-  filling_turns n most i made h l = going_turns size (filled size f d) n most i made (set made i (f i)) (λ x. set x i (f i)) h l refl (fill_next size f d i (f i) (omega (arith, h.bound)) refl ∙ ap (filled size f d) (omega arith))
-
-  -- and all at the end
-  pub filling_ends : (n most i : ℕ) (made : List A) → Filling n most i made → most ≤ i → made ≡ filled size f d (min n size)
-  filling_ends = going_ends size (filled size f d)
+-- a table made entry by entry, of whose rows n are in use and the others blank
+pub in_use : {F A : Type 0} {g : Mut F (ℕ × Unit {0}) A} {f : F} {l : List A} (size n : ℕ) (h : ℕ → A) (d : A)
+    → ((i : ℕ) (a : A) (k : F) → i < size → Called g f (i, tt) a k → (k ≡ f) × (a ≡ cond (ltb i n) (h i) d)) → IsFromFnResult g f l size → l ≡ filled size h d (min n size)
+unfolding filled
+in_use size n h d call r = made size (λ i. cond (ltb i n) (h i) d) call r d ∙ tabulate_below size _ _ (λ i l. ap (λ b. cond b (h i) d) (by_below i n
+    (λ low. lt-ltb i n low ∙ sym (lt-ltb i (min n size) (omega arith)))
+    (λ high. le-ltb i n high ∙ sym (le-ltb i (min n size) (omega arith)))))
 
 -- ---- the search for the running thread
 

@@ -9,14 +9,10 @@ ghost use Rattle.value_engine.specs.Stands.{engine_of};
 ghost use Rattle.place_tables.specs.Cells.{scheduler_in};
 ghost use Rattle.place_clock.specs.Clock.{clock_in, clock_of};
 ghost use Rattle.page.specs.Says.{said};
-ghost use Rattle.page_building.specs.Building.{mutex_rows, tie_rows, running_row, thread_rows, timer_rows, hung_below, runner_in, blank_scheduler, arrived_one, arrived_below, arrived_places, build_model};
+ghost use Rattle.page_building.specs.Building.{mutex_rows, tie_rows, running_row, thread_rows, timer_from, timer_rows, hung_below, runner_in, blank_scheduler, arrived_one, arrived_below, arrived_places, build_model};
 
-use choice::{larger, smaller};
-use limits::{
-    CONDITION_ROWS, CONDITIONS, FOR_MUTEX, MUTEX_ROWS, MUTEXES, NONE, ON_CONDITION, READY, RUNNING,
-    THREAD_ROWS, THREADS, TIMER_ROWS, TIMERS,
-};
-use page::{Page, ThreadRow, ThreadRows, TimerRows};
+use limits::{FOR_MUTEX, NONE, ON_CONDITION, READY, RUNNING, THREADS, TIMERS};
+use page::{Page, ThreadRow, ThreadRows, TimerRow, TimerRows};
 use place_calls::Counts;
 use place_clock::{ClockWords, clock_of};
 use place_packing::packed;
@@ -24,6 +20,7 @@ use place_queues::{arrive, wait_for, wait_on};
 use place_step::engine_of;
 use place_tables::Cells;
 use queue::{Links, Queues};
+use std::array;
 use value_effects::{FREE_MUTEX, MutexTable, SETS, Scheduler, Ties, highest_ceiling};
 use value_engine::{Engine, STOPPED_TIMER, Timer, TimerTable};
 use value_tables::{BLANK_THREAD, Thread, ThreadTable, Threads};
@@ -33,32 +30,14 @@ use wheel::{WheelWords, empty_words, start};
 fn mutex_rows(rows: MutexTable, n: u8) -> MutexTable
     ensures { result ≡ mutex_rows rows n }
 {
-    let free = FREE_MUTEX;
-    let mut made = [free; MUTEX_ROWS];
-    let most = smaller(n, MUTEXES);
-    let mut m: u8 = 0;
-    while m < most {
-        let i = m as usize;
-        let row = rows[i];
-        made[i] = row;
-        m += 1;
-    }
-    made
+    array::from_fn(|m| if m < n as usize { rows[m] } else { FREE_MUTEX })
 }
 
 // The ties of n condition variables.
 fn tie_rows(rows: Ties, n: u8) -> Ties
     ensures { result ≡ tie_rows rows n }
 {
-    let mut made = [NONE; CONDITION_ROWS];
-    let most = smaller(n, CONDITIONS);
-    let mut c: u8 = 0;
-    while c < most {
-        let i = c as usize;
-        made[i] = rows[i];
-        c += 1;
-    }
-    made
+    array::from_fn(|c| if c < n as usize { rows[c] } else { NONE })
 }
 
 // The row of thread t while it stands in no queue.
@@ -66,7 +45,7 @@ fn running_row(row: ThreadRow, mutexes: MutexTable, t: u8) -> Thread
     ensures { result ≡ running_row mutexes row t }
 {
     let ceiling = highest_ceiling(mutexes, t);
-    let priority = larger(row.base, ceiling);
+    let priority = row.base.max(ceiling);
     Thread {
         base: row.base,
         priority,
@@ -79,53 +58,46 @@ fn running_row(row: ThreadRow, mutexes: MutexTable, t: u8) -> Thread
 fn thread_rows(rows: ThreadRows, mutexes: MutexTable, n: u8) -> ThreadTable
     ensures { result ≡ thread_rows rows mutexes n }
 {
-    let blank = BLANK_THREAD;
-    let mut made = [blank; THREAD_ROWS];
-    let most = smaller(n, THREADS);
-    let mut t: u8 = 0;
-    while t < most {
-        let i = t as usize;
-        let row = rows[i];
-        let thread = running_row(row, mutexes, t);
-        made[i] = thread;
-        t += 1;
+    array::from_fn(|t| {
+        if t < n as usize {
+            running_row(rows[t], mutexes, t as u8)
+        } else {
+            BLANK_THREAD
+        }
+    })
+}
+
+// The engine's row of a timer.
+fn timer_from(row: TimerRow) -> Timer
+    ensures { result ≡ timer_from row }
+{
+    Timer {
+        state: row.state,
+        condition: row.condition,
+        length: row.length,
     }
-    made
 }
 
 // The rows of n timers.
 fn timer_rows(rows: TimerRows, n: u8) -> TimerTable
     ensures { result ≡ timer_rows rows n }
 {
-    let stopped = STOPPED_TIMER;
-    let mut made = [stopped; TIMER_ROWS];
-    let most = smaller(n, TIMERS);
-    let mut id: u8 = 0;
-    while id < most {
-        let i = id as usize;
-        let row = rows[i];
-        let length = row.length;
-        made[i] = Timer {
-            state: row.state,
-            condition: row.condition,
-            length,
-        };
-        id += 1;
-    }
-    made
+    array::from_fn(|id| {
+        if id < n as usize {
+            timer_from(rows[id])
+        } else {
+            STOPPED_TIMER
+        }
+    })
 }
 
 // The first n timers hung on a wheel in place, for their ticks left; a stopped one has 0 left and hangs nowhere.
 fn hang(wheel: &mut WheelWords, rows: TimerRows, n: u8)
     ensures { wheel_in wheel.new ≡ hung_below rows (min n 32) (wheel_in wheel.old) }
 {
-    let most = smaller(n, TIMERS);
-    let mut id: u8 = 0;
-    while id < most {
-        let i = id as usize;
-        let row = rows[i];
+    for id in 0..n.min(TIMERS) {
+        let row = rows[id as usize];
         start(wheel, id, row.left);
-        id += 1;
     }
 }
 
@@ -133,15 +105,11 @@ fn hang(wheel: &mut WheelWords, rows: TimerRows, n: u8)
 fn runner(rows: ThreadRows, n: u8) -> u8
     ensures { result ≡ runner_in rows (min n 32) 0 }
 {
-    let most = smaller(n, THREADS);
-    let mut t: u8 = 0;
-    while t < most {
-        let i = t as usize;
-        let row = rows[i];
+    for t in 0..n.min(THREADS) {
+        let row = rows[t as usize];
         if row.state == RUNNING {
             return t;
         }
-        t += 1;
     }
     NONE
 }
@@ -200,13 +168,8 @@ fn arrive_one(cells: &mut Cells, row: ThreadRow, place: u8, t: u8)
 fn arrive_place(cells: &mut Cells, rows: ThreadRows, n: u8, place: u8)
     ensures { scheduler_in cells.new ≡ arrived_below rows place (min n 32) (scheduler_in cells.old) }
 {
-    let most = smaller(n, THREADS);
-    let mut t: u8 = 0;
-    while t < most {
-        let i = t as usize;
-        let row = rows[i];
-        arrive_one(cells, row, place, t);
-        t += 1;
+    for t in 0..n.min(THREADS) {
+        arrive_one(cells, rows[t as usize], place, t);
     }
 }
 
@@ -214,11 +177,8 @@ fn arrive_place(cells: &mut Cells, rows: ThreadRows, n: u8, place: u8)
 fn arrive_all(cells: &mut Cells, rows: ThreadRows, n: u8)
     ensures { scheduler_in cells.new ≡ arrived_places rows (min n 32) (min n 32) (scheduler_in cells.old) }
 {
-    let most = smaller(n, THREADS);
-    let mut place: u8 = 0;
-    while place < most {
+    for place in 0..n.min(THREADS) {
         arrive_place(cells, rows, n, place);
-        place += 1;
     }
 }
 

@@ -15,13 +15,14 @@ ghost use Rattle.value_engine.specs.Stands.{engine_of};
 ghost use Rattle.page.specs.Says.{page_for};
 ghost use Rattle.page_describing.specs.Describing.{set_number, place_model, thread_model, timer_model, timer_at, describe_model};
 
-use limits::{FOR_MUTEX, READY, RUNNING, THREAD_ROWS, THREADS, TIMER_ROWS, TIMERS};
-use page::{BLANK_ROW, Page, STOPPED_ROW, ThreadRow, ThreadRows, TimerRow, TimerRows};
+use limits::{FOR_MUTEX, READY, RUNNING, THREADS};
+use page::{Page, ThreadRow, ThreadRows, TimerRow, TimerRows};
 use place_calls::Counts;
 use place_clock::{ClockWords, count_at, timer_at};
 use place_packing::{mutexes_in, ties_in};
 use place_tables::{CONDITION_SETS, Cells, MUTEX_SETS, READY_SET, link_at, queue_at, thread_at};
 use queue::Queue;
+use std::array;
 use value_effects::OBJECTS;
 use value_tables::Thread;
 use wheel::{WheelWords, left};
@@ -30,9 +31,8 @@ use wheel::{WheelWords, left};
 fn ahead_of(cells: &Cells, queue: Queue, t: u8) -> u8
     ensures { result ≡ ahead t (read_model (scheduler_in cells.now).threads.links queue) }
 {
-    let mut count: u8 = 0;
     let mut here = queue.first;
-    while count < THREADS {
+    for count in 0..THREADS {
         if THREADS <= here {
             return count;
         }
@@ -40,9 +40,8 @@ fn ahead_of(cells: &Cells, queue: Queue, t: u8) -> u8
             return count;
         }
         here = link_at(cells, here);
-        count += 1;
     }
-    count
+    THREADS
 }
 
 // The number of the set of queues in which a thread with this row stands; its object is taken modulo 16.
@@ -88,16 +87,7 @@ fn thread_row(cells: &Cells, t: u8) -> ThreadRow
 fn thread_rows(cells: &Cells) -> ThreadRows
     ensures { result ≡ tabulate 32 (thread_model (scheduler_in cells.now)) }
 {
-    let blank = BLANK_ROW;
-    let mut rows = [blank; THREAD_ROWS];
-    let mut t: u8 = 0;
-    while t < THREADS {
-        let row = thread_row(cells, t);
-        let i = t as usize;
-        rows[i] = row;
-        t += 1;
-    }
-    rows
+    array::from_fn(|t| thread_row(cells, t as u8))
 }
 
 // The page's row of timer id; its ticks left are the wheel's.
@@ -119,16 +109,7 @@ fn timer_row(clock: &ClockWords, wheel: &WheelWords, id: u8) -> TimerRow
 fn timer_rows(clock: &ClockWords, wheel: &WheelWords) -> TimerRows
     ensures { result ≡ tabulate 32 (timer_at (clock_in clock.now).timers (wheel_in wheel.now)) }
 {
-    let stopped = STOPPED_ROW;
-    let mut rows = [stopped; TIMER_ROWS];
-    let mut id: u8 = 0;
-    while id < TIMERS {
-        let row = timer_row(clock, wheel, id);
-        let i = id as usize;
-        rows[i] = row;
-        id += 1;
-    }
-    rows
+    array::from_fn(|id| timer_row(clock, wheel, id as u8))
 }
 
 // The page of an engine that stands in three arrays; for the engine of a sound state the page of that state, blank past the counts.
@@ -136,21 +117,16 @@ pub fn describe(cells: &Cells, clock: &ClockWords, wheel: &WheelWords, counts: C
     ensures always { result ≡ describe_model (engine_on cells.now clock.now wheel.now counts) }
     ensures means { (s : State) → sound s ≡ true → engine_on cells.now clock.now wheel.now counts ≡ engine_of s → result ≡ page_for (page_of s) }
 {
-    let threadrows = thread_rows(cells);
-    let mutexrows = mutexes_in(cells);
-    let ties = ties_in(cells);
-    let timerrows = timer_rows(clock, wheel);
-    let count = count_at(clock);
     Page {
         started: counts.started,
-        count,
+        count: count_at(clock),
         threads: counts.threads,
         mutexes: counts.mutexes,
         conditions: counts.conditions,
         timers: counts.timercount,
-        threadrows,
-        mutexrows,
-        ties,
-        timerrows,
+        threadrows: thread_rows(cells),
+        mutexrows: mutexes_in(cells),
+        ties: ties_in(cells),
+        timerrows: timer_rows(clock, wheel),
     }
 }

@@ -2,12 +2,14 @@
 // specs/Clock.antt says how a row stands in a word. A timer's id is taken modulo 32, so that every function is total; callers hand in ids that exist.
 #![tactic(auto)]
 
-ghost use Rattle.std.specs.Prelude.{◌≡◌, get_or, set};
+ghost use Rattle.std.specs.Prelude.{◌≡◌};
 ghost use Rattle.place_clock.specs.Clock.{clock_in, clock_of, timer_of, with_timer, with_timers, with_count};
 
+use entries::{load, store};
 use limits::{TIMER_ROWS, TIMERS};
+use std::array;
 use units::Ticks;
-use value_engine::{STOPPED_TIMER, Timer, TimerTable};
+use value_engine::{Timer, TimerTable};
 
 // The words of the array.
 pub const CLOCK_WORDS: usize = TIMER_ROWS + 1;
@@ -24,31 +26,12 @@ const CONDITION: u32 = 256;
 // What its length counts, above the 8 bits of the condition variable.
 const LENGTH: u32 = 65536;
 
-// The word at a place, 0 past the end.
-fn load(words: &[u32], at: usize) -> u32
-    ensures { result ≡ get_or words.now at 0 }
-{
-    if words.len() <= at {
-        return 0;
-    }
-    words[at]
-}
-
-// Another word at a place; past the end nothing is stored.
-fn store(words: &mut [u32], at: usize, word: u32)
-    ensures { words.new ≡ set words.old at word }
-{
-    if at < words.len() {
-        words[at] = word;
-    }
-}
-
 // The row of timer id.
 pub fn timer_at(clock: &ClockWords, id: u8) -> Timer
     ensures { result ≡ timer_of (clock_in clock.now) id }
 {
     let i = (id % TIMERS) as usize;
-    let word = load(clock, i);
+    let word = load(clock, i, 0);
     let state = (word % CONDITION) as u8;
     let condition = (word % LENGTH / CONDITION) as u8;
     let length = (word / LENGTH) as u16;
@@ -64,9 +47,9 @@ pub fn put_timer(clock: &mut ClockWords, id: u8, row: Timer)
     ensures { clock_in clock.new ≡ with_timer (clock_in clock.old) id row }
 {
     let i = (id % TIMERS) as usize;
-    let state = row.state as u32;
-    let condition = row.condition as u32;
-    let length = row.length.0 as u32;
+    let state = u32::from(row.state);
+    let condition = u32::from(row.condition);
+    let length = u32::from(row.length.0);
     store(clock, i, state + condition * CONDITION + length * LENGTH);
 }
 
@@ -74,7 +57,7 @@ pub fn put_timer(clock: &mut ClockWords, id: u8, row: Timer)
 pub fn count_at(clock: &ClockWords) -> u32
     ensures { result ≡ (clock_in clock.now).count }
 {
-    load(clock, COUNT_AT)
+    load(clock, COUNT_AT, 0)
 }
 
 // Another tick count.
@@ -88,28 +71,15 @@ pub fn put_count(clock: &mut ClockWords, count: u32)
 pub fn timers_in(clock: &ClockWords) -> TimerTable
     ensures { result ≡ (clock_in clock.now).timers }
 {
-    let stopped = STOPPED_TIMER;
-    let mut rows = [stopped; TIMER_ROWS];
-    let mut id: u8 = 0;
-    while id < TIMERS {
-        let row = timer_at(clock, id);
-        let i = id as usize;
-        rows[i] = row;
-        id += 1;
-    }
-    rows
+    array::from_fn(|id| timer_at(clock, id as u8))
 }
 
 // Other rows of all timers.
 fn put_timers(clock: &mut ClockWords, rows: TimerTable)
     ensures { clock_in clock.new ≡ with_timers (clock_in clock.old) rows }
 {
-    let mut id: u8 = 0;
-    while id < TIMERS {
-        let i = id as usize;
-        let row = rows[i];
-        put_timer(clock, id, row);
-        id += 1;
+    for (id, row) in rows.iter().enumerate() {
+        put_timer(clock, id as u8, *row);
     }
 }
 

@@ -8,7 +8,6 @@ ghost use Rattle.refusals.specs.Verdicts.{owned_in};
 ghost use Rattle.place_tables.specs.Cells.{scheduler_in};
 ghost use Rattle.place_effects.specs.Leaving.{signalled_in};
 
-use choice::larger;
 use limits::{CONDITIONS, MOST_COUNT, MUTEXES, NONE, PRIORITIES, READY, THREADS};
 use place_queues::{arrive, depart, head, wait_for, wait_on};
 use place_tables::{
@@ -23,13 +22,10 @@ use value_tables::Thread;
 fn highest_ceiling(cells: &Cells, t: u8) -> u8
     ensures { result ≡ highest_in (scheduler_in cells.now).mutexes t }
 {
-    let mut best: u8 = 0;
-    let mut i: u8 = 0;
-    while i < MUTEXES {
+    let mut best = 0u8;
+    for i in 0..MUTEXES {
         let row = mutex_at(cells, i);
-        let ceiling = ceiling_for(row, t);
-        best = larger(best, ceiling);
-        i += 1;
+        best = best.max(ceiling_for(row, t));
     }
     best
 }
@@ -38,12 +34,10 @@ fn highest_ceiling(cells: &Cells, t: u8) -> u8
 pub fn owned_by(cells: &Cells, t: u8) -> u8
     ensures { result ≡ owned_in (scheduler_in cells.now).mutexes t }
 {
-    let mut owned: u8 = 0;
-    let mut i: u8 = 0;
-    while i < MUTEXES {
+    let mut owned = 0u8;
+    for i in 0..MUTEXES {
         let row = mutex_at(cells, i);
         owned += owned_one(row, t);
-        i += 1;
     }
     owned
 }
@@ -57,14 +51,8 @@ fn settle(cells: &mut Cells, t: u8)
     }
     let ceiling = highest_ceiling(cells, t);
     let row = thread_at(cells, t);
-    let priority = larger(row.base, ceiling);
-    let settled = Thread {
-        base: row.base,
-        priority,
-        state: row.state,
-        object: row.object,
-    };
-    put_thread(cells, t, settled);
+    let priority = row.base.max(ceiling);
+    put_thread(cells, t, Thread { priority, ..row });
 }
 
 // Mutex m has owner t and count n, and the priorities of its old and new owner follow.
@@ -73,9 +61,9 @@ fn own(cells: &mut Cells, m: u8, t: u8, n: u8)
 {
     let row = mutex_at(cells, m);
     let owned = Mutex {
-        ceiling: row.ceiling,
         owner: t,
         count: n,
+        ..row
     };
     put_mutex(cells, m, owned);
     settle(cells, row.owner);
@@ -87,12 +75,7 @@ fn recount(cells: &mut Cells, m: u8, n: u8)
     ensures { scheduler_in cells.new ≡ recount_model (scheduler_in cells.old) m n }
 {
     let row = mutex_at(cells, m);
-    let counted = Mutex {
-        ceiling: row.ceiling,
-        owner: row.owner,
-        count: n,
-    };
-    put_mutex(cells, m, counted);
+    put_mutex(cells, m, Mutex { count: n, ..row });
 }
 
 // Mutex m goes to its highest, earliest waiter, with count 1, and that thread is ready; with no waiter it is free.
@@ -183,15 +166,13 @@ pub fn signal(cells: &mut Cells, c: u8) -> u16
 pub fn broadcast(cells: &mut Cells, c: u8) -> u16
     ensures { signalled_in cells.new result ≡ broadcast_model 32 0 (scheduler_in cells.old) c }
 {
-    let mut left: u16 = 0;
-    while left < SIGNALS {
+    for left in 0..SIGNALS {
         let one = signal(cells, c);
         if one == 0 {
             return left;
         }
-        left += 1;
     }
-    left
+    SIGNALS
 }
 
 // Thread t is new, of a base, and ready.

@@ -31,15 +31,10 @@ fn join(cells: &mut Cells, n: u8, p: u8, t: u8)
     let queue = queue_at(cells, n, p);
     if queue.last < THREADS {
         put_link(cells, queue.last, t);
-        let longer = Queue {
-            first: queue.first,
-            last: t,
-        };
-        put_queue(cells, n, p, longer);
+        put_queue(cells, n, p, Queue { last: t, ..queue });
         return;
     }
-    let alone = Queue { first: t, last: t };
-    put_queue(cells, n, p, alone);
+    put_queue(cells, n, p, Queue { first: t, last: t });
 }
 
 // Thread t arrives at the front of the queue of priority p in set n.
@@ -52,15 +47,10 @@ fn join_front(cells: &mut Cells, n: u8, p: u8, t: u8)
     let queue = queue_at(cells, n, p);
     put_link(cells, t, queue.first);
     if queue.first < THREADS {
-        let longer = Queue {
-            first: t,
-            last: queue.last,
-        };
-        put_queue(cells, n, p, longer);
+        put_queue(cells, n, p, Queue { first: t, ..queue });
         return;
     }
-    let alone = Queue { first: t, last: t };
-    put_queue(cells, n, p, alone);
+    put_queue(cells, n, p, Queue { first: t, last: t });
 }
 
 // The first of the queue of priority p leaves set n.
@@ -76,7 +66,7 @@ pub fn depart(cells: &mut Cells, n: u8, p: u8)
     if next < THREADS {
         let shorter = Queue {
             first: next,
-            last: queue.last,
+            ..queue
         };
         put_queue(cells, n, p, shorter);
         return;
@@ -89,8 +79,7 @@ fn ahead(cells: &Cells, first: u8, t: u8) -> u8
     ensures { result ≡ ahead_model (links_kept (scheduler_in cells.now)).next 32 first t }
 {
     let mut met = first;
-    let mut passed: u8 = 0;
-    while passed < THREADS {
+    for _ in 0..THREADS {
         if THREADS <= met {
             return NONE;
         }
@@ -99,7 +88,6 @@ fn ahead(cells: &Cells, first: u8, t: u8) -> u8
             return met;
         }
         met = after;
-        passed += 1;
     }
     NONE
 }
@@ -125,8 +113,8 @@ pub fn remove(cells: &mut Cells, n: u8, p: u8, t: u8)
     put_link(cells, t, NONE);
     if queue.last == t {
         let shorter = Queue {
-            first: queue.first,
             last: ahead,
+            ..queue
         };
         put_queue(cells, n, p, shorter);
     }
@@ -150,10 +138,9 @@ fn stand(cells: &mut Cells, t: u8, state: u8, object: u8)
 {
     let row = thread_at(cells, t);
     let moved = Thread {
-        base: row.base,
-        priority: row.priority,
         state,
         object,
+        ..row
     };
     put_thread(cells, t, moved);
 }
@@ -208,11 +195,9 @@ pub fn choose_next(cells: &mut Cells, tick: bool)
         run_first(cells);
         return;
     }
-    if tick {
-        if row.priority == best {
-            arrive(cells, running);
-            run_first(cells);
-        }
+    if tick && row.priority == best {
+        arrive(cells, running);
+        run_first(cells);
     }
 }
 

@@ -63,20 +63,16 @@ pub fn counts_of(engine: Engine) -> Counts
 pub fn engine_of(cells: &Cells, clock: &ClockWords, wheel: &WheelWords, counts: Counts) -> Engine
     ensures { result ≡ engine_on cells.now clock.now wheel.now counts }
 {
-    let scheduler = unpacked(cells);
-    let timers = timers_in(clock);
-    let count = count_at(clock);
-    let turning = wheel_of(wheel);
     Engine {
-        scheduler,
-        timers,
-        wheel: turning,
+        scheduler: unpacked(cells),
+        timers: timers_in(clock),
+        wheel: wheel_of(wheel),
         started: counts.started,
         threads: counts.threads,
         mutexes: counts.mutexes,
         conditions: counts.conditions,
         timercount: counts.timercount,
-        count,
+        count: count_at(clock),
     }
 }
 

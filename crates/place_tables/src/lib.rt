@@ -3,14 +3,15 @@
 // An id is taken modulo the size of its table, so that every function is total; callers hand in ids that exist.
 #![tactic(auto)]
 
-ghost use Rattle.std.specs.Prelude.{◌≡◌, ◌%◌, get_or, set};
+ghost use Rattle.std.specs.Prelude.{◌≡◌, ◌%◌};
 ghost use Rattle.queue.specs.Linking.{highest_model};
 ghost use Rattle.value_tables.specs.Tables.{row_of};
 ghost use Rattle.value_effects.specs.Effects.{mutex_of, with_mutex, with_tie};
 ghost use Rattle.place_tables.specs.Cells.{scheduler_in};
 ghost use Rattle.place_tables.specs.Changes.{with_running, with_thread, with_link, link_of, tie_of, set_numbered, queue_numbered, with_queue};
 
-use limits::{CONDITIONS, HIGHEST, MUTEXES, PRIORITIES, THREADS};
+use entries::{load, store};
+use limits::{CONDITIONS, MUTEXES, PRIORITIES, THREADS};
 use queue::Queue;
 use value_effects::Mutex;
 use value_tables::Thread;
@@ -60,35 +61,16 @@ pub const MUTEX_SETS: u8 = 1;
 // The set of condition variable 0.
 pub const CONDITION_SETS: u8 = 17;
 
-// The byte at a place, 0 past the end.
-fn load(bytes: &[u8], at: usize) -> u8
-    ensures { result ≡ get_or bytes.now at 0 }
-{
-    if bytes.len() <= at {
-        return 0;
-    }
-    bytes[at]
-}
-
-// Another byte at a place; past the end nothing is stored.
-fn store(bytes: &mut [u8], at: usize, byte: u8)
-    ensures { bytes.new ≡ set bytes.old at byte }
-{
-    if at < bytes.len() {
-        bytes[at] = byte;
-    }
-}
-
 // The row of thread t.
 pub fn thread_at(cells: &Cells, t: u8) -> Thread
     ensures { result ≡ row_of (scheduler_in cells.now).threads t }
 {
     let i = (t % THREADS) as usize * THREAD_BYTES;
     Thread {
-        base: load(cells, i),
-        priority: load(cells, i + 1),
-        state: load(cells, i + 2),
-        object: load(cells, i + 3),
+        base: load(cells, i, 0),
+        priority: load(cells, i + 1, 0),
+        state: load(cells, i + 2, 0),
+        object: load(cells, i + 3, 0),
     }
 }
 
@@ -108,7 +90,7 @@ pub fn link_at(cells: &Cells, t: u8) -> u8
     ensures { result ≡ link_of (scheduler_in cells.now) t }
 {
     let i = LINKS_FROM + (t % THREADS) as usize;
-    load(cells, i)
+    load(cells, i, 0)
 }
 
 // Another thread follows thread t.
@@ -128,8 +110,8 @@ pub fn queue_at(cells: &Cells, n: u8, p: u8) -> Queue
     }
     let i = QUEUES_FROM + (n % ALL_SETS) as usize * SET_BYTES + p as usize * QUEUE_BYTES;
     Queue {
-        first: load(cells, i),
-        last: load(cells, i + 1),
+        first: load(cells, i, 0),
+        last: load(cells, i + 1, 0),
     }
 }
 
@@ -151,9 +133,9 @@ pub fn mutex_at(cells: &Cells, m: u8) -> Mutex
 {
     let i = MUTEXES_FROM + (m % MUTEXES) as usize * MUTEX_BYTES;
     Mutex {
-        ceiling: load(cells, i),
-        owner: load(cells, i + 1),
-        count: load(cells, i + 2),
+        ceiling: load(cells, i, 0),
+        owner: load(cells, i + 1, 0),
+        count: load(cells, i + 2, 0),
     }
 }
 
@@ -172,7 +154,7 @@ pub fn tie_at(cells: &Cells, c: u8) -> u8
     ensures { result ≡ tie_of (scheduler_in cells.now) c }
 {
     let i = TIES_FROM + (c % CONDITIONS) as usize;
-    load(cells, i)
+    load(cells, i, 0)
 }
 
 // Condition variable c is tied to mutex m, 255 for none.
@@ -187,7 +169,7 @@ pub fn put_tie(cells: &mut Cells, c: u8, m: u8)
 pub fn running_at(cells: &Cells) -> u8
     ensures { result ≡ (scheduler_in cells.now).running }
 {
-    load(cells, RUNNING_AT)
+    load(cells, RUNNING_AT, 0)
 }
 
 // Another thread runs.
@@ -201,14 +183,11 @@ pub fn put_running(cells: &mut Cells, t: u8)
 pub fn highest_at(cells: &Cells, n: u8) -> u8
     ensures { result ≡ highest_model (set_numbered (scheduler_in cells.now) (n % 33)) }
 {
-    let mut passed: u8 = 0;
-    while passed < PRIORITIES {
-        let p = HIGHEST - passed;
+    for p in (0..PRIORITIES).rev() {
         let queue = queue_at(cells, n, p);
         if queue.first < THREADS {
             return p;
         }
-        passed += 1;
     }
     PRIORITIES
 }

@@ -1,10 +1,9 @@
 -- One timer served in place is the definition's: it signals, and is started again or stopped.
 -- Assumes nothing.
-use Prim.Native.Nat.{ℕ, zero, suc, ◌+◌, ◌-◌, ◌%◌, ◌<◌, ◌≤◌}
-use mathlib.Core.Path.{◌≡◌, refl, sym, ap, ◌∙◌}
-use mathlib.Core.List.{List, [], ◌∷◌}
-use native.Mathlib.Omega.{arith}
-use lib.ListN.{length, get_or, set}
+use Prim.Native.Nat.{ℕ, ◌+◌, ◌%◌, ◌<◌}
+use mathlib.Core.Path.{◌≡◌, sym, ap, ◌∙◌}
+use mathlib.Core.List.{List}
+use lib.ListN.{get_or, set}
 use borrow.Author.Tests.{eq-eqb, ne_eqb}
 use Rattle.wheel.specs.declared.Wheel.{Wheel}
 use Rattle.wheel.specs.Promise.{started_in, first, rest}
@@ -16,24 +15,11 @@ use Rattle.value_engine.specs.declared.Engine.{Engine}
 use Rattle.value_engine.specs.declared.Effect.{Effect}
 use Rattle.value_engine.specs.declared.Timer.{Timer}
 use Rattle.value_engine.specs.Engines.{no_timer, stopped_row, serve_model}
-use Rattle.value_engine.proofs.Serving.{on_from, serve_on, serve_none, serve_full}
+use Rattle.value_engine.proofs.Serving.{on_from, serve_on}
 use Rattle.place_calls.specs.declared.Counts.{Counts}
 use Rattle.place_calls.specs.Standing.{Timing, engine_in}
 
 -- ---- the ids that are left
-
--- with a first there is one less in the rest
-pub one_less : (ids : List ℕ) → first ids < 32 → length ids ≡ length (rest ids) + 1
-one_less [] h = absurd (omega (arith, h))
-one_less (i ∷ is) h = omega arith
-
--- with none left, serving ends with what there is
-pub ends : (x : Engine) (ids : List ℕ) (n : ℕ) → n ≤ 32 → 32 ≤ first ids → on_from n x ids ≡ record { engine = x; given = n }
-ends x ids n h none = by_cases_on (32 - n) refl
-  where
-    by_cases_on : (f : ℕ) → 32 - n ≡ f → on_from n x ids ≡ record { engine = x; given = n }
-    by_cases_on zero e = serve_full x ids n (omega (arith, e))
-    by_cases_on (suc f) e = serve_none x ids n (omega (arith, e)) none
 
 -- one is served, and serving goes on with the others
 pub goes_on : (x y : Engine) (z : Effect) (ids ids' : List ℕ) (n i : ℕ) → n < 32 → i < 32 → i ≡ first ids → ids' ≡ rest ids → y ≡ serve_model x i → on_from n x ids ≡ z → on_from (n + 1) y ids' ≡ z

@@ -8,7 +8,7 @@ ghost use Rattle.place_calls.specs.declared.Counts.{Counts};
 ghost use Rattle.place_timers.specs.Arrays.{engine_on, stepped_on, effect_on};
 
 use calls::{Answer, Kind, Verdict, number};
-use limits::{NOTHING, PERIODIC, TICK_COUNTS, TIMERS};
+use limits::{NOTHING, PERIODIC, TIMERS};
 use place_calls::{Counts, finish, refuse};
 use place_clock::{ClockWords, count_at, put_count, put_timer, timer_at};
 use place_effects::signal;
@@ -17,6 +17,9 @@ use refusals::{first_of, id_verdict, ids_verdict, start_timer_verdict, stop_verd
 use units::{Micros, count_of, ticks_of};
 use value_engine::{STOPPED_TIMER, Timer, length_kept, state_of};
 use wheel::{Due, WheelWords};
+
+// The most timers that come due at one tick.
+const MOST_DUE: u16 = TIMERS as u16;
 
 // Call 11.
 pub fn start_timer(
@@ -103,15 +106,15 @@ fn serve_all(cells: &mut Cells, clock: &mut ClockWords, wheel: &mut WheelWords, 
     ensures { (counts : Counts) → effect_on cells.new clock.new wheel.new counts result ≡ serve_all_model 32 0 (engine_on cells.old clock.old wheel.old counts) (ids_of due) }
 {
     let mut left = due;
-    let mut id = due.first();
-    let mut given: u16 = 0;
-    while id < TIMERS {
+    for given in 0..MOST_DUE {
+        let id = left.first();
+        if TIMERS <= id {
+            return given;
+        }
         serve(cells, clock, wheel, id);
         left = left.rest();
-        id = left.first();
-        given += 1;
     }
-    given
+    MOST_DUE
 }
 
 // Call 13.
@@ -129,7 +132,7 @@ pub fn tick(
     let turned = wheel::tick(wheel);
     let due = turned.due;
     let count = count_at(clock);
-    put_count(clock, ((count as u64 + 1) % TICK_COUNTS) as u32);
+    put_count(clock, count.wrapping_add(1));
     let given = serve_all(cells, clock, wheel, due);
     finish(cells, counts, given, true)
 }

@@ -1,4 +1,4 @@
--- `arrive_all` takes one place after the other. The invariant: those of the places below this one have arrived. The measure is what is left. Assumes nothing.
+-- `arrive_all` takes one place after the other. The invariant: those of the places below this one have arrived. Assumes nothing.
 use Prim.Native.Nat.{min}
 use mathlib.Core.Path.{refl}
 use Rattle.page_building.specs.Building.{arrived_below, arrived_places}
@@ -6,7 +6,7 @@ use Rattle.page_building.proofs.Turns.{going_starts, going_turns, going_ends}
 use Rattle.page_building.proofs.arrive_all.Goals as goal
 
 pub loop-place-init : goal.loop-place-init
-loop-place-init c = going_starts 32 _ _ _ _ c.smaller-most.ensures (unfold arrived_places in refl)
+loop-place-init c = going_starts 32 _ _ _ _ c.min-place-end.ensures (unfold arrived_places in refl)
 
 pub loop-place-preserved : goal.loop-place-preserved
 loop-place-preserved c =

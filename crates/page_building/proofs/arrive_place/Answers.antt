@@ -1,4 +1,4 @@
--- `arrive_place` lets one thread after the other arrive. The invariant: those below t have arrived. The measure is what is left. Assumes nothing.
+-- `arrive_place` lets one thread after the other arrive. The invariant: those below t have arrived. Assumes nothing.
 use mathlib.Core.Path.{refl}
 use lib.ListN.{get_or}
 use Rattle.page.specs.Says.{no_thread_row}
@@ -7,7 +7,7 @@ use Rattle.page_building.proofs.Turns.{going_starts, going_turns, going_ends}
 use Rattle.page_building.proofs.arrive_place.Goals as goal
 
 pub loop-t-init : goal.loop-t-init
-loop-t-init c = going_starts 32 _ _ _ _ c.smaller-most.ensures (unfold arrived_below in refl)
+loop-t-init c = going_starts 32 _ _ _ _ c.min-t-end.ensures (unfold arrived_below in refl)
 
 pub loop-t-preserved : goal.loop-t-preserved
 loop-t-preserved c =

@@ -1,4 +1,4 @@
--- `hang` starts one timer after the other. The invariant: those below id hang. The measure is what is left. Assumes nothing.
+-- `hang` starts one timer after the other. The invariant: those below id hang. Assumes nothing.
 use mathlib.Core.Path.{refl}
 use lib.ListN.{get_or}
 use Rattle.wheel.specs.Promise.{started_in}
@@ -8,7 +8,7 @@ use Rattle.page_building.proofs.Turns.{going_starts, going_turns, going_ends}
 use Rattle.page_building.proofs.hang.Goals as goal
 
 pub loop-id-init : goal.loop-id-init
-loop-id-init c = going_starts 32 _ _ _ _ c.smaller-most.ensures (unfold hung_below in refl)
+loop-id-init c = going_starts 32 _ _ _ _ c.min-id-end.ensures (unfold hung_below in refl)
 
 pub loop-id-preserved : goal.loop-id-preserved
 loop-id-preserved c =

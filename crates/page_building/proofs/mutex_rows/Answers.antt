@@ -1,15 +1,13 @@
--- `mutex_rows` copies the rows in use. The invariant: the rows below m are copied. The measure is what is left. Assumes nothing.
+-- `mutex_rows` makes the table entry by entry. Assumes nothing.
+use borrow.Author.Rules.{rules}
+use lib.ListN.{get_or}
+use Rattle.page.specs.Says.{no_mutex_row}
 use Rattle.page_building.specs.Building.{free_row, mutex_rows}
-use Rattle.page_building.proofs.Turns.{filling_starts, filling_turns, filling_ends}
+use Rattle.page_building.proofs.Turns.{in_use}
 use Rattle.page_building.proofs.mutex_rows.Goals as goal
-
-pub loop-m-init : goal.loop-m-init
-loop-m-init c = filling_starts 16 _ free_row _ _ c.smaller-most.ensures
-
-pub loop-m-preserved : goal.loop-m-preserved
-loop-m-preserved c =
-    filling_turns 16 _ free_row _ _ _ _ c.loop-m.invariant c.loop-m-test.true
 
 pub returns : goal.returns
 unfolding mutex_rows
-returns c = filling_ends 16 _ free_row _ _ _ _ c.loop-m.invariant c.loop-m-test.false
+returns c =
+    let a = c.args in
+    in_use 16 a.n (λ i. get_or a.rows i no_mutex_row) free_row (λ i row f l call. (λ j. (call.met.1.0 j, call.met.1.1 j), search (call, rules))) c.from_fn.ensures.items

@@ -1,9 +1,9 @@
--- `runner` is the search. The invariant: the search from t on gives what the whole search gives. The measure is what is left. Assumes nothing.
+-- `runner` is the search. The invariant: the search from t on gives what the whole search gives. Assumes nothing.
 use Rattle.page_building.proofs.Turns.{searching_starts, searching_found, searching_turns, searching_ends}
 use Rattle.page_building.proofs.runner.Goals as goal
 
 pub loop-t-init : goal.loop-t-init
-loop-t-init c = searching_starts _ _ _ c.smaller-most.ensures
+loop-t-init c = searching_starts _ _ _ c.min-t-end.ensures
 
 pub returns-then-row-eq-RUNNING : goal.returns-then-row-eq-RUNNING
 returns-then-row-eq-RUNNING c =

@@ -4,4 +4,4 @@ use Rattle.page_building.proofs.running_row.Goals as goal
 
 pub returns : goal.returns
 unfolding running_row
-returns c = rw (c.larger-priority.ensures, c.highest_ceiling-ceiling.ensures)
+returns c = rw (c.max-priority.ensures, c.highest_ceiling-ceiling.ensures)

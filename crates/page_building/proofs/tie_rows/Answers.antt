@@ -1,14 +1,12 @@
--- `tie_rows` copies the ties in use. The invariant: the rows below c are filled. The measure is what is left. Assumes nothing.
+-- `tie_rows` makes the table entry by entry. Assumes nothing.
+use borrow.Author.Rules.{rules}
+use lib.ListN.{get_or}
 use Rattle.page_building.specs.Building.{tie_rows}
-use Rattle.page_building.proofs.Turns.{filling_starts, filling_turns, filling_ends}
+use Rattle.page_building.proofs.Turns.{in_use}
 use Rattle.page_building.proofs.tie_rows.Goals as goal
-
-pub loop-c-init : goal.loop-c-init
-loop-c-init c = filling_starts 16 _ 255 _ _ c.smaller-most.ensures
-
-pub loop-c-preserved : goal.loop-c-preserved
-loop-c-preserved c = filling_turns 16 _ 255 _ _ _ _ c.loop-c.invariant c.loop-c-test.true
 
 pub returns : goal.returns
 unfolding tie_rows
-returns c = filling_ends 16 _ 255 _ _ _ _ c.loop-c.invariant c.loop-c-test.false
+returns c =
+    let a = c.args in
+    in_use 16 a.n (λ i. get_or a.rows i 0) 255 (λ i tie f l call. (λ j. (call.met.1.0 j, call.met.1.1 j), search (call, rules))) c.from_fn.ensures.items

@@ -1,16 +1,14 @@
--- `timer_rows` copies the rows in use. The invariant: the rows below id are filled. The measure is what is left. Assumes nothing.
+-- `timer_rows` makes the table entry by entry. Assumes nothing.
+use borrow.Author.Rules.{rules}
+use lib.ListN.{get_or}
 use Rattle.value_engine.specs.Engines.{stopped_row}
-use Rattle.page_building.specs.Building.{timer_rows}
-use Rattle.page_building.proofs.Turns.{filling_starts, filling_turns, filling_ends}
+use Rattle.page.specs.Says.{no_timer_row}
+use Rattle.page_building.specs.Building.{timer_from, timer_rows}
+use Rattle.page_building.proofs.Turns.{in_use}
 use Rattle.page_building.proofs.timer_rows.Goals as goal
-
-pub loop-id-init : goal.loop-id-init
-loop-id-init c = filling_starts 32 _ stopped_row _ _ c.smaller-most.ensures
-
-pub loop-id-preserved : goal.loop-id-preserved
-loop-id-preserved c =
-    filling_turns 32 _ stopped_row _ _ _ _ c.loop-id.invariant c.loop-id-test.true
 
 pub returns : goal.returns
 unfolding timer_rows
-returns c = filling_ends 32 _ stopped_row _ _ _ _ c.loop-id.invariant c.loop-id-test.false
+returns c =
+    let a = c.args in
+    in_use 32 a.n (λ i. timer_from (get_or a.rows i no_timer_row)) stopped_row (λ i row f l call. (λ j. (call.met.1.0 j, call.met.1.1 j), search (call, rules))) c.from_fn.ensures.items

@@ -1,4 +1,5 @@
--- `ahead_of` counts those ahead. The invariant: the count and those ahead on the rest of the walk make the whole. The measure is the steps left. Assumes nothing.
+-- `ahead_of` counts those ahead. The invariant: the count and those ahead on the rest of the walk make the whole. Assumes nothing.
+use mathlib.Core.Path.{◌≡◌, sym, ◌∙◌}
 use native.Mathlib.Omega.{arith}
 use native.Mathlib.Nat.{zero-add}
 use Rattle.queue.specs.Linking.{read_model}
@@ -23,4 +24,6 @@ loop-count-preserved c =
 
 pub returns : goal.returns
 unfolding read_model
-returns c = count_full _ _ _ _ _ c.loop-count.invariant c.loop-count-test.false
+returns c =
+    let all : c.loop-count.count ≡ 32 = omega arith in
+    sym all ∙ count_full _ _ _ _ _ c.loop-count.invariant c.loop-count-test.false

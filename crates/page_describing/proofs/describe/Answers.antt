@@ -7,7 +7,7 @@ use Rattle.page_describing.proofs.describe.Goals as goal
 pub returns-clause-always : goal.returns-clause-always
 unfolding describe_model scheduler_in
 returns-clause-always c =
-    rw (c.thread_rows-threadrows.ensures, c.mutexes_in-mutexrows.ensures, c.ties_in-ties.ensures, c.timer_rows-timerrows.ensures, c.count_at-count.ensures)
+    rw (c.thread_rows.ensures, c.mutexes_in.ensures, c.ties_in.ensures, c.timer_rows.ensures, c.count_at.ensures)
 
 pub returns-clause-means : goal.returns-clause-means
 returns-clause-means c = (describe_promise _ _ (returns-clause-always c)).1

@@ -1,16 +1,11 @@
--- `thread_rows` fills the table. The invariant: the rows below the thread are made. The measure is what is left. Assumes nothing.
-use mathlib.Core.Path.{ap, ◌∙◌}
-use native.Mathlib.Omega.{arith}
-use lib.ListN.{set}
-use Rattle.laws.proofs.Filling.{fill_none, fill_next, fill_all}
+-- `thread_rows` makes the table entry by entry. Assumes nothing.
+use borrow.Author.Rules.{rules}
+use Rattle.rules.specs.Page.{no_row}
+use Rattle.laws.proofs.Making.{made}
+use Rattle.place_tables.specs.Cells.{scheduler_in}
+use Rattle.page.specs.Says.{thread_for}
+use Rattle.page_describing.specs.Describing.{thread_model}
 use Rattle.page_describing.proofs.thread_rows.Goals as goal
 
-pub loop-t-init : goal.loop-t-init
-loop-t-init c = (omega arith, fill_none 32 _ _)
-
-pub loop-t-preserved : goal.loop-t-preserved
-loop-t-preserved c =
-    (omega arith, ap (λ l. set l c.loop-t.t c.thread_row-row.result) c.loop-t.invariant.1 ∙ fill_next 32 _ _ c.loop-t.t c.thread_row-row.result c.loop-t-test.true c.thread_row-row.ensures)
-
 pub returns : goal.returns
-returns c = c.loop-t.invariant.1 ∙ fill_all 32 _ _ _ c.loop-t-test.false
+returns c = made 32 (thread_model (scheduler_in c.args.cells.now)) (λ i row f l call. (λ j. record { 0 = call.met.1 j }, search (call, rules))) c.from_fn.ensures.items (thread_for no_row)

@@ -12,4 +12,4 @@ returns c =
     let state_fits : c.args.row.state < 256 = search rules in
     let condition_fits : c.args.row.condition < 256 = search rules in
     let length_fits : c.args.row.length.0 < 65536 = search rules in
-    rw c.store.ensures (timer_put _ long _ _ state_fits condition_fits length_fits)
+    rw (c.store.ensures, c.from-state.ensures, c.from-condition.ensures, c.from-length.ensures) (timer_put _ long _ _ state_fits condition_fits length_fits)

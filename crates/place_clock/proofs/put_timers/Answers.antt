@@ -1,6 +1,5 @@
--- `put_timers` replaces the table. The invariant: the rows below id are the new ones. The measure is what is left. Assumes nothing.
+-- `put_timers` replaces the table. The invariant: the rows below id are the new ones. Assumes nothing.
 use mathlib.Core.Path.{refl}
-use native.Mathlib.Omega.{arith}
 use Rattle.queue.proofs.Cases.{cases}
 use Rattle.value_engine.specs.Engines.{no_timer}
 use Rattle.place_clock.specs.Clock.{clock_in, with_timer}
@@ -9,14 +8,14 @@ use Rattle.place_clock.proofs.Words.{row_put, rows_long}
 use Rattle.place_clock.proofs.put_timers.Goals as goal
 
 pub loop-id-init : goal.loop-id-init
-loop-id-init c = (omega arith, search cases, copy_none _ _ _ _ refl)
+loop-id-init c = copy_none _ _ _ _ refl
 
 pub loop-id-preserved : goal.loop-id-preserved
 loop-id-preserved c =
     let l = c.loop-id in
     let x = clock_in c.args.clock.now in
     let less = c.loop-id-test.true in
-    (omega arith, l.invariant.1, copy_next _ _ _ 32 l.id no_timer (λ y a. with_timer y l.id a) _ _ (rows_long _) l.invariant.1 less (row_put x l.id less) l.invariant.2 c.put_timer.ensures)
+    copy_next _ _ _ 32 l.id no_timer (λ y a. with_timer y l.id a) _ _ (rows_long _) (search cases) less (row_put x l.id less) l.invariant c.put_timer.ensures
 
 pub returns : goal.returns
-returns c = copy_all _ _ _ 32 _ _ (rows_long _) c.loop-id.invariant.1 c.loop-id-test.false c.loop-id.invariant.2
+returns c = copy_all _ _ _ 32 _ _ (rows_long _) (search cases) c.loop-id-test.false c.loop-id.invariant

@@ -1,21 +1,12 @@
--- `timers_in` fills the table. The invariant: the rows below id are made. The measure is what is left. Assumes nothing.
-use mathlib.Core.Path.{ap, ◌∙◌}
-use native.Mathlib.Omega.{arith}
-use lib.ListN.{set}
-use Rattle.laws.proofs.Filling.{fill_none, fill_next, fill_all}
-use Rattle.place_clock.specs.Clock.{clock_in}
+-- `timers_in` makes the table entry by entry. Assumes nothing.
+use mathlib.Core.Path.{◌∙◌}
+use borrow.Author.Rules.{rules}
+use Rattle.laws.proofs.Making.{made}
+use Rattle.value_engine.specs.Engines.{no_timer}
+use Rattle.place_clock.specs.Clock.{clock_in, timer_in}
 use Rattle.place_clock.proofs.Words.{timer_within}
 use Rattle.place_clock.proofs.timers_in.Goals as goal
 
-pub loop-id-init : goal.loop-id-init
-loop-id-init c = (omega arith, fill_none 32 _ _)
-
-pub loop-id-preserved : goal.loop-id-preserved
-loop-id-preserved c =
-    let l = c.loop-id in
-    let row = c.timer_at-row in
-    (omega arith, ap (λ a. set a l.id row.result) l.invariant.1 ∙ fill_next 32 _ _ l.id row.result c.loop-id-test.true (row.ensures ∙ timer_within _ l.id c.loop-id-test.true))
-
 pub returns : goal.returns
 unfolding clock_in
-returns c = c.loop-id.invariant.1 ∙ fill_all 32 _ _ _ c.loop-id-test.false
+returns c = made 32 (timer_in c.args.clock.now) (λ i row f l call. (λ j. record { 0 = call.met.1 j }, search (call, rules) ∙ timer_within _ i l)) c.from_fn.ensures.items no_timer

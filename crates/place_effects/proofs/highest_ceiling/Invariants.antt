@@ -1,5 +1,5 @@
--- `highest_ceiling` is the search. The invariant: the best so far and the ceilings left give what the whole search gives. The measure is what is left. Assumes nothing.
-use Prim.Native.Nat.{◌≤◌, ◌-◌, max}
+-- `highest_ceiling` is the search. The invariant: the best so far and the ceilings left give what the whole search gives. Assumes nothing.
+use Prim.Native.Nat.{max}
 use mathlib.Core.Path.{◌≡◌}
 use lib.ListN.{drop}
 use Rattle.value_effects.specs.Effects.{highest_in}
@@ -7,7 +7,4 @@ use Rattle.place_tables.specs.Cells.{scheduler_in}
 use Rattle.place_effects.proofs.highest_ceiling.Given as goal
 
 abbrev pub invariant-loop-i : goal.invariant-loop-i
-invariant-loop-i l = (l.i ≤ 16) × (max l.best (highest_in (drop l.i (scheduler_in l.cells).mutexes) l.t) ≡ highest_in (scheduler_in l.cells).mutexes l.t)
-
-abbrev pub decreases-loop-i : goal.decreases-loop-i
-decreases-loop-i l = 16 - l.i
+invariant-loop-i l = max l.best (highest_in (drop l.i (scheduler_in l.cells).mutexes) l.t) ≡ highest_in (scheduler_in l.cells).mutexes l.t

@@ -12,4 +12,4 @@ returns-then-t-ge-THREADS c = rw (le-ltb _ _ c.if-t-ge-THREADS.true)
 
 pub returns : goal.returns
 returns c =
-    rw c.put_thread.ensures (settles _ _ _ _ c.if-t-ge-THREADS.false c.thread_at-row.ensures (c.larger-priority.ensures ∙ ap (max c.thread_at-row.result.base) c.highest_ceiling-ceiling.ensures))
+    rw c.put_thread.ensures (settles _ _ _ _ c.if-t-ge-THREADS.false c.thread_at-row.ensures (c.max-priority.ensures ∙ ap (max c.thread_at-row.result.base) c.highest_ceiling-ceiling.ensures))

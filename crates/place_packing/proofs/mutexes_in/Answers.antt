@@ -1,19 +1,11 @@
--- `mutexes_in` fills the table. The invariant: the rows below m are made. The measure is what is left. Assumes nothing.
-use mathlib.Core.Path.{ap, ◌∙◌}
-use native.Mathlib.Omega.{arith}
-use lib.ListN.{set}
-use Rattle.laws.proofs.Filling.{fill_none, fill_next, fill_all}
+-- `mutexes_in` makes the table entry by entry. Assumes nothing.
+use mathlib.Core.Path.{◌∙◌}
+use borrow.Author.Rules.{rules}
+use Rattle.value_effects.specs.Effects.{no_mutex}
+use Rattle.place_tables.specs.Cells.{mutex_in}
+use Rattle.laws.proofs.Making.{made}
 use Rattle.place_packing.proofs.Reading.{mutex_within}
 use Rattle.place_packing.proofs.mutexes_in.Goals as goal
 
-pub loop-m-init : goal.loop-m-init
-loop-m-init c = (omega arith, fill_none 16 _ _)
-
-pub loop-m-preserved : goal.loop-m-preserved
-loop-m-preserved c =
-    let l = c.loop-m in
-    let row = c.mutex_at-row in
-    (omega arith, ap (λ a. set a l.m row.result) l.invariant.1 ∙ fill_next 16 _ _ l.m row.result c.loop-m-test.true (row.ensures ∙ mutex_within _ l.m c.loop-m-test.true))
-
 pub returns : goal.returns
-returns c = c.loop-m.invariant.1 ∙ fill_all 16 _ _ _ c.loop-m-test.false
+returns c = made 16 (mutex_in c.args.cells.now) (λ i row f l call. (λ j. record { 0 = call.met.1 j }, search (call, rules) ∙ mutex_within _ i l)) c.from_fn.ensures.items no_mutex

@@ -1,4 +1,4 @@
--- `put_levels` replaces the table. The invariant: the queues below p are the new ones. The measure is what is left. Assumes nothing.
+-- `put_levels` replaces the table. The invariant: the queues below p are the new ones. Assumes nothing.
 use Prim.Native.Nat.{◌%◌}
 use mathlib.Core.Path.{sym}
 use native.Mathlib.Omega.{arith}
@@ -10,7 +10,7 @@ use Rattle.place_packing.proofs.Putting.{no_queue, level_put, levels_long}
 use Rattle.place_packing.proofs.put_levels.Goals as goal
 
 pub loop-p-init : goal.loop-p-init
-loop-p-init c = (omega arith, search cases, copy_none _ _ _ _ (sym (set_back _ _)))
+loop-p-init c = (copy_none _ _ _ _ (sym (set_back _ _)))
 
 pub loop-p-preserved : goal.loop-p-preserved
 loop-p-preserved c =
@@ -18,7 +18,7 @@ loop-p-preserved c =
     let given = c.args in
     let n = given.n % 33 in
     let less = c.loop-p-test.true in
-    (omega arith, l.invariant.1, copy_next _ _ _ 16 l.p no_queue (λ y a. with_queue y n l.p a) _ _ (levels_long _ n (omega arith)) l.invariant.1 less (level_put given.cells.now n l.p (omega arith)) l.invariant.2 c.put_queue.ensures)
+    copy_next _ _ _ 16 l.p no_queue (λ y a. with_queue y n l.p a) _ _ (levels_long _ n (omega arith)) (search cases) less (level_put given.cells.now n l.p (omega arith)) l.invariant c.put_queue.ensures
 
 pub returns : goal.returns
-returns c = copy_all _ _ _ 16 _ _ (levels_long _ _ (omega arith)) c.loop-p.invariant.1 c.loop-p-test.false c.loop-p.invariant.2
+returns c = copy_all _ _ _ 16 _ _ (levels_long _ _ (omega arith)) (search cases) c.loop-p-test.false c.loop-p.invariant

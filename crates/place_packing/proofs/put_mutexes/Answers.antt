@@ -1,6 +1,5 @@
--- `put_mutexes` replaces the table. The invariant: the rows below m are the new ones. The measure is what is left. Assumes nothing.
+-- `put_mutexes` replaces the table. The invariant: the rows below m are the new ones. Assumes nothing.
 use mathlib.Core.Path.{refl}
-use native.Mathlib.Omega.{arith}
 use Rattle.queue.proofs.Cases.{cases}
 use Rattle.value_effects.specs.Effects.{no_mutex, with_mutex}
 use Rattle.place_tables.specs.Cells.{scheduler_in}
@@ -9,14 +8,14 @@ use Rattle.place_packing.proofs.Putting.{mutex_put, mutexes_long}
 use Rattle.place_packing.proofs.put_mutexes.Goals as goal
 
 pub loop-m-init : goal.loop-m-init
-loop-m-init c = (omega arith, search cases, copy_none _ _ _ _ refl)
+loop-m-init c = copy_none _ _ _ _ refl
 
 pub loop-m-preserved : goal.loop-m-preserved
 loop-m-preserved c =
     let l = c.loop-m in
     let x = scheduler_in c.args.cells.now in
     let less = c.loop-m-test.true in
-    (omega arith, l.invariant.1, copy_next _ _ _ 16 l.m no_mutex (λ y a. with_mutex y l.m a) _ _ (mutexes_long _) l.invariant.1 less (mutex_put x l.m less) l.invariant.2 c.put_mutex.ensures)
+    copy_next _ _ _ 16 l.m no_mutex (λ y a. with_mutex y l.m a) _ _ (mutexes_long _) (search cases) less (mutex_put x l.m less) l.invariant c.put_mutex.ensures
 
 pub returns : goal.returns
-returns c = copy_all _ _ _ 16 _ _ (mutexes_long _) c.loop-m.invariant.1 c.loop-m-test.false c.loop-m.invariant.2
+returns c = copy_all _ _ _ 16 _ _ (mutexes_long _) (search cases) c.loop-m-test.false c.loop-m.invariant

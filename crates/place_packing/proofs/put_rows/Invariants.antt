@@ -1,14 +1,9 @@
--- `put_rows` replaces the table. The invariant: the rows below t are the new ones. The measure is what is left. Assumes nothing.
-use Prim.Native.Nat.{◌-◌, ◌≤◌}
+-- `put_rows` replaces the table. The invariant: the rows below t are the new ones. Assumes nothing.
 use mathlib.Core.Path.{◌≡◌}
-use lib.ListN.{length}
 use Rattle.place_tables.specs.Cells.{scheduler_in}
 use Rattle.place_packing.specs.Tables.{with_rows}
 use Rattle.laws.proofs.Copying.{copied}
 use Rattle.place_packing.proofs.put_rows.Given as goal
 
 abbrev pub invariant-loop-t : goal.invariant-loop-t
-invariant-loop-t l = (l.t ≤ 32) × (length l.rows ≡ 32) × (scheduler_in l.cells ≡ copied (with_rows (scheduler_in l.initial.cells)) (scheduler_in l.initial.cells).threads.rows l.rows l.t)
-
-abbrev pub decreases-loop-t : goal.decreases-loop-t
-decreases-loop-t l = 32 - l.t
+invariant-loop-t l = scheduler_in l.cells ≡ copied (with_rows (scheduler_in l.initial.cells)) (scheduler_in l.initial.cells).threads.rows l.row-items l.t

@@ -1,6 +1,5 @@
--- `put_sets` replaces the table. The invariant: the sets below m are the new ones. The measure is what is left. Assumes nothing.
+-- `put_sets` replaces the table. The invariant: the sets below m are the new ones. Assumes nothing.
 use Prim.Native.Nat.{◌+◌, ◌%◌}
-use native.Mathlib.Omega.{arith}
 use Rattle.queue.proofs.Cases.{cases}
 use Rattle.value_effects.specs.Effects.{no_set}
 use Rattle.place_tables.specs.Cells.{scheduler_in}
@@ -10,7 +9,7 @@ use Rattle.place_packing.proofs.Putting.{sets_back, set_put, sets_long}
 use Rattle.place_packing.proofs.put_sets.Goals as goal
 
 pub loop-m-init : goal.loop-m-init
-loop-m-init c = (omega arith, search cases, copy_none _ _ _ _ (sets_back _ _))
+loop-m-init c = copy_none _ _ _ _ (sets_back _ _)
 
 pub loop-m-preserved : goal.loop-m-preserved
 loop-m-preserved c =
@@ -18,7 +17,7 @@ loop-m-preserved c =
     let given = c.args in
     let x = scheduler_in given.cells.now in
     let less = c.loop-m-test.true in
-    (omega arith, l.invariant.1, copy_next _ _ _ 16 l.m no_set (λ y a. with_levels y ((first_set given.kind + l.m) % 33) a.levels) _ _ (sets_long _ _) l.invariant.1 less (set_put x given.kind l.m less) l.invariant.2 c.put_levels.ensures)
+    copy_next _ _ _ 16 l.m no_set (λ y a. with_levels y ((first_set given.kind + l.m) % 33) a.levels) _ _ (sets_long _ _) (search cases) less (set_put x given.kind l.m less) l.invariant c.put_levels.ensures
 
 pub returns : goal.returns
-returns c = copy_all _ _ _ 16 _ _ (sets_long _ _) c.loop-m.invariant.1 c.loop-m-test.false c.loop-m.invariant.2
+returns c = copy_all _ _ _ 16 _ _ (sets_long _ _) (search cases) c.loop-m-test.false c.loop-m.invariant

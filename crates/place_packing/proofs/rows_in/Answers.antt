@@ -1,19 +1,11 @@
--- `rows_in` fills the table. The invariant: the rows below t are made. The measure is what is left. Assumes nothing.
-use mathlib.Core.Path.{ap, ◌∙◌}
-use native.Mathlib.Omega.{arith}
-use lib.ListN.{set}
-use Rattle.laws.proofs.Filling.{fill_none, fill_next, fill_all}
+-- `rows_in` makes the table entry by entry. Assumes nothing.
+use mathlib.Core.Path.{◌∙◌}
+use borrow.Author.Rules.{rules}
+use Rattle.value_tables.specs.Tables.{blank}
+use Rattle.place_tables.specs.Cells.{thread_in}
+use Rattle.laws.proofs.Making.{made}
 use Rattle.place_packing.proofs.Reading.{thread_within}
 use Rattle.place_packing.proofs.rows_in.Goals as goal
 
-pub loop-t-init : goal.loop-t-init
-loop-t-init c = (omega arith, fill_none 32 _ _)
-
-pub loop-t-preserved : goal.loop-t-preserved
-loop-t-preserved c =
-    let l = c.loop-t in
-    let row = c.thread_at-row in
-    (omega arith, ap (λ a. set a l.t row.result) l.invariant.1 ∙ fill_next 32 _ _ l.t row.result c.loop-t-test.true (row.ensures ∙ thread_within _ l.t c.loop-t-test.true))
-
 pub returns : goal.returns
-returns c = c.loop-t.invariant.1 ∙ fill_all 32 _ _ _ c.loop-t-test.false
+returns c = made 32 (thread_in c.args.cells.now) (λ i row f l call. (λ j. record { 0 = call.met.1 j }, search (call, rules) ∙ thread_within _ i l)) c.from_fn.ensures.items blank

@@ -1,24 +1,17 @@
--- `sets_in` fills the table. The invariant: the sets below m are made. The measure is what is left. Assumes nothing.
+-- `sets_in` makes the table entry by entry. Assumes nothing.
 use Prim.Native.Nat.{◌+◌}
-use mathlib.Core.Path.{◌≡◌, refl, ap, ◌∙◌}
+use mathlib.Core.Path.{refl, ap, ◌∙◌}
 use native.Mathlib.Omega.{arith}
-use lib.ListN.{set, replicate}
-use Rattle.laws.proofs.Filling.{fill_none, fill_next, fill_all}
+use borrow.Author.Rules.{rules}
+use Rattle.queue.specs.Linking.{empty_queues}
 use Rattle.place_tables.specs.Cells.{set_in}
 use Rattle.place_packing.specs.Tables.{first_set}
+use Rattle.laws.proofs.Making.{made}
 use Rattle.place_packing.proofs.Putting.{number}
 use Rattle.place_packing.proofs.sets_in.Goals as goal
 
-pub loop-m-init : goal.loop-m-init
-loop-m-init c = (omega arith, ap (replicate 16) c.empty-empty.ensures ∙ fill_none 16 _ _)
-
-pub loop-m-preserved : goal.loop-m-preserved
-loop-m-preserved c =
-    let l = c.loop-m in
-    let given = c.args in
-    let n = number (first_set given.kind + l.m) _ refl (omega arith) in
-    let row : record { levels = c.levels_in-levels.result } ≡ set_in given.cells.now (first_set given.kind + l.m) = ap (λ r. record { levels = r }) c.levels_in-levels.ensures ∙ ap (set_in given.cells.now) n in
-    (omega arith, ap (λ a. set a l.m (record { levels = c.levels_in-levels.result })) l.invariant.1 ∙ fill_next 16 _ _ l.m (record { levels = c.levels_in-levels.result }) c.loop-m-test.true row)
-
 pub returns : goal.returns
-returns c = c.loop-m.invariant.1 ∙ fill_all 16 _ _ _ c.loop-m-test.false
+returns c =
+    let kind = c.args.kind in
+    made 16 (λ m. set_in c.args.cells.now (first_set kind + m))
+    (λ i set f l call. (λ j. (call.met.1.0 j, call.met.1.1 j), search (call, rules) ∙ ap (set_in c.args.cells.now) (number (first_set kind + i) _ refl (omega arith)))) c.from_fn.ensures.items empty_queues

@@ -3,4 +3,4 @@ use Rattle.place_step.proofs.engine_of.Goals as goal
 
 pub returns : goal.returns
 returns c =
-    rw (c.wheel_of-turning.ensures, c.count_at-count.ensures, c.timers_in-timers.ensures, c.unpacked-scheduler.ensures)
+    rw (c.wheel_of.ensures, c.count_at.ensures, c.timers_in.ensures, c.unpacked.ensures)

@@ -1,40 +1,36 @@
--- `highest_at` is the plain search. The invariant: the search below the priorities passed gives what the whole search gives.
--- The measure is how many are left. Assumes nothing.
-use Prim.Native.Nat.{◌+◌, ◌-◌}
+-- `highest_at` is the plain search. The invariant: the search below p gives what the whole search gives.
+-- Assumes nothing.
+use Prim.Native.Nat.{◌-◌}
 use mathlib.Core.Path.{◌≡◌, refl, sym, ap, ◌∙◌}
 use native.Mathlib.Omega.{arith}
-use borrow.Author.Rules.{rules}
 use borrow.Author.Tests.{lt-ltb, le-ltb}
 use lib.Dec.{ltb}
 use Rattle.queue.specs.declared.Queue.{Queue}
-use Rattle.queue.specs.Linking.{has_first, highest_below, highest_model}
+use Rattle.queue.specs.Linking.{has_first, highest_model}
 use Rattle.queue.proofs.Searches.{search_none, search_found, search_passed}
 use Rattle.place_tables.proofs.highest_at.Invariants.{searched}
 use Rattle.place_tables.proofs.highest_at.Goals as goal
 
-pub loop-passed-init : goal.loop-passed-init
+pub loop-p-init : goal.loop-p-init
 unfolding highest_model
-loop-passed-init c = (search rules, refl)
+loop-p-init c = refl
 
 pub returns-then-queue-lt-THREADS : goal.returns-then-queue-lt-THREADS
 unfolding has_first
 returns-then-queue-lt-THREADS c =
     let s = searched c.args.cells.now c.args.n in
-    let p = 15 - c.loop-passed.passed in
-    let e = ap (λ (q : Queue). ltb q.first 32) (sym c.queue_at-queue.ensures) ∙ lt-ltb _ _ c.if-queue-lt-THREADS.true in
-    sym (c.loop-passed.invariant.1 ∙ search_found (has_first s) 16 (16 - c.loop-passed.passed) p (omega arith) e)
+    let first = ap (λ (q : Queue). ltb q.first 32) (sym c.queue_at-queue.ensures) ∙ lt-ltb _ _ c.if-queue-lt-THREADS.true in
+    sym (c.loop-p.invariant ∙ search_found (has_first s) 16 c.loop-p.p (c.loop-p.p - 1) (omega arith) first)
 
-pub loop-passed-preserved : goal.loop-passed-preserved
+pub loop-p-preserved : goal.loop-p-preserved
 unfolding has_first
-loop-passed-preserved c =
+loop-p-preserved c =
     let s = searched c.args.cells.now c.args.n in
-    let p = 15 - c.loop-passed.passed in
-    let e = ap (λ (q : Queue). ltb q.first 32) (sym c.queue_at-queue.ensures) ∙ le-ltb _ _ c.if-queue-lt-THREADS.false in
-    let n : p ≡ 16 - (c.loop-passed.passed + 1) = omega arith in
-    (omega arith, c.loop-passed.invariant.1 ∙ search_passed (has_first s) 16 (16 - c.loop-passed.passed) p (omega arith) e ∙ ap (highest_below (has_first s) 16) n)
+    let none = ap (λ (q : Queue). ltb q.first 32) (sym c.queue_at-queue.ensures) ∙ le-ltb _ _ c.if-queue-lt-THREADS.false in
+    c.loop-p.invariant ∙ search_passed (has_first s) 16 c.loop-p.p (c.loop-p.p - 1) (omega arith) none
 
 pub returns : goal.returns
 returns c =
     let s = searched c.args.cells.now c.args.n in
-    let z : 16 - c.loop-passed.passed ≡ 0 = omega arith in
-    sym (c.loop-passed.invariant.1 ∙ ap (highest_below (has_first s) 16) z ∙ search_none (has_first s) 16)
+    let end : c.loop-p.p ≡ 0 = omega arith in
+    sym (rw end at c.loop-p.invariant ∙ search_none (has_first s) 16)

@@ -1,7 +1,0 @@
--- `store` meets its contract: by its test. Assumes nothing.
-use mathlib.Core.Path.{sym}
-use lib.Seq.{set_out}
-use Rattle.place_clock.proofs.store.Goals as goal
-
-pub returns-else-at-words : goal.returns-else-at-words
-returns-else-at-words c = sym (set_out _ _ _ c.if-at-words.false)

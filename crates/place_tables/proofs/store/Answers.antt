@@ -1,7 +1,0 @@
--- `store` meets its contract: by its test. Assumes nothing.
-use mathlib.Core.Path.{sym}
-use lib.Seq.{set_out}
-use Rattle.place_tables.proofs.store.Goals as goal
-
-pub returns-else-at-bytes : goal.returns-else-at-bytes
-returns-else-at-bytes c = sym (set_out _ _ _ c.if-at-bytes.false)
