@@ -9,6 +9,8 @@ ghost use Rattle.rules.specs.Page.{where_of, runner_from};
 ghost use Rattle.rules.specs.Sound.{implies};
 ghost use Rattle.sound_standing.specs.Standing.{kind_of, stands_of, ceiling_in, priorities_in, owns_nothing_in, anyone_in, threads_in, top_in};
 
+use std::array;
+
 use choice::larger;
 use limits::{FOR_MUTEX, MUTEXES, NONE, ON_CONDITION, READY, RUNNING, THREAD_ROWS, THREADS};
 use page::{ThreadRow, ThreadRows};
@@ -72,80 +74,37 @@ pub fn stands(row: ThreadRow, state: u8, object: u8) -> bool
 fn highest_ceiling(mutexes: MutexTable, n: u8, t: u8) -> u8
     ensures { result ≡ ceiling_in mutexes n t }
 {
-    let mut best: u8 = 0;
-    let mut m = n;
-    while 0 < m {
-        m -= 1;
-        let i = (m % MUTEXES) as usize;
-        let row = mutexes[i];
-        let ceiling = ceiling_for(row, t);
-        best = larger(ceiling, best);
-    }
-    best
+    (0..n).fold(0, |best, m| {
+        ceiling_for(mutexes[(m % MUTEXES) as usize], t).max(best)
+    })
 }
 
 // The priority of each thread, with the first n mutexes.
 pub fn priorities_of(rows: ThreadRows, mutexes: MutexTable, n: u8) -> Priorities
     ensures { result ≡ priorities_in rows mutexes n }
 {
-    let mut priorities = [0u8; THREAD_ROWS];
-    let mut t: u8 = 0;
-    while t < THREADS {
-        let i = t as usize;
-        let row = rows[i];
-        let ceiling = highest_ceiling(mutexes, n, t);
-        priorities[i] = larger(row.base, ceiling);
-        t += 1;
-    }
-    priorities
+    array::from_fn(|t| rows[t].base.max(highest_ceiling(mutexes, n, t as u8)))
 }
 
 // Whether thread t owns none of the first n mutexes.
 pub fn owns_nothing(mutexes: MutexTable, n: u8, t: u8) -> bool
     ensures { result ≡ owns_nothing_in mutexes n t }
 {
-    let mut m = n;
-    while 0 < m {
-        m -= 1;
-        let i = (m % MUTEXES) as usize;
-        let row = mutexes[i];
-        if row.owner == t {
-            return false;
-        }
-    }
-    true
+    (0..n).all(|m| mutexes[(m % MUTEXES) as usize].owner != t)
 }
 
 // Whether any of the first n threads stands where this state and object say.
 pub fn anyone(rows: ThreadRows, n: u8, state: u8, object: u8) -> bool
     ensures { result ≡ anyone_in rows n (where_of state object) }
 {
-    let mut t = n;
-    while 0 < t {
-        t -= 1;
-        let i = (t % THREADS) as usize;
-        let row = rows[i];
-        if stands(row, state, object) {
-            return true;
-        }
-    }
-    false
+    (0..n).any(|t| stands(rows[(t % THREADS) as usize], state, object))
 }
 
 // The first of the first n threads that runs, 255 for none.
 pub fn runner_of(rows: ThreadRows, n: u8) -> u8
     ensures { result ≡ runner_from 0 (threads_in rows n) }
 {
-    let mut t: u8 = 0;
-    while t < n {
-        let i = (t % THREADS) as usize;
-        let row = rows[i];
-        if stands(row, RUNNING, NONE) {
-            return t;
-        }
-        t += 1;
-    }
-    NONE
+    (0..n).find(|t| stands(rows[(*t % THREADS) as usize], RUNNING, NONE)).unwrap_or(NONE)
 }
 
 // The priority of thread t with the first `count` mutexes; its base is 0 if it is none of the first n threads.

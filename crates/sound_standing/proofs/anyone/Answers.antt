@@ -1,20 +1,11 @@
--- `anyone` meets its contract. The invariant: the threads left decide as all do. The measure is what is left. Assumes nothing.
-use mathlib.Core.Path.{ap}
-use mathlib.Core.Bool.{not}
-use Rattle.sound_standing.specs.Standing.{nobody_in}
-use Rattle.sound_standing.proofs.Loops.{each_on, each_out, each_end}
+use Rattle.std.proofs.Common.{rules, ◌≡◌, not, ℕ, ◌+◌, ◌-◌, ◌*◌, ◌<◌, ◌≤◌, length, ◌/◌, ◌%◌, Bool, true, false, nat_eq, nat_lt, List, [], ◌∷◌, ◌++◌, slice_index_or, slice_set, bit_and, bit_or, Fits, w8, w32, w64, Bor, MutBor}
+use Rattle.units.specs.Units.{outside}
+use Rattle.rules.specs.State.{same}
+use Rattle.rules.specs.Page.{where_of, runner_from}
+use Rattle.rules.specs.Sound.{implies}
+use Rattle.sound_standing.specs.Standing.{kind_of, stands_of, ceiling_in, priorities_in, owns_nothing_in, anyone_in, threads_in, top_in}
 use Rattle.sound_standing.proofs.anyone.Goals as goal
 
-pub returns-then-stands : goal.returns-then-stands
-unfolding nobody_in
-returns-then-stands c =
-    ap not (each_out _ _ _ c.loop-t-test.true c.loop-t.invariant (rw (← c.stands.ensures, c.if-stands.true)))
-
-pub loop-t-preserved : goal.loop-t-preserved
-unfolding nobody_in
-loop-t-preserved c =
-    each_on _ _ _ c.loop-t-test.true c.loop-t.invariant (rw (← c.stands.ensures, c.if-stands.false))
-
+-- src/lib.rt:97:1
 pub returns : goal.returns
-unfolding nobody_in
-returns c = ap not (each_end _ _ _ c.loop-t-test.false c.loop-t.invariant)
+returns c = ?

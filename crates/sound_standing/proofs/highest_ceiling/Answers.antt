@@ -1,13 +1,11 @@
--- `highest_ceiling` meets its contract. The invariant: the best so far and the ceilings left give what all give. The measure is what is left. Assumes nothing.
-use Rattle.sound_standing.specs.Standing.{ceiling_in}
-use Rattle.sound_standing.proofs.Loops.{highest_on, highest_end}
+use Rattle.std.proofs.Common.{rules, ◌≡◌, not, ℕ, ◌+◌, ◌-◌, ◌*◌, ◌<◌, ◌≤◌, length, ◌/◌, ◌%◌, Bool, true, false, nat_eq, nat_lt, List, [], ◌∷◌, ◌++◌, slice_index_or, slice_set, bit_and, bit_or, Fits, w8, w32, w64, Bor, MutBor}
+use Rattle.units.specs.Units.{outside}
+use Rattle.rules.specs.State.{same}
+use Rattle.rules.specs.Page.{where_of, runner_from}
+use Rattle.rules.specs.Sound.{implies}
+use Rattle.sound_standing.specs.Standing.{kind_of, stands_of, ceiling_in, priorities_in, owns_nothing_in, anyone_in, threads_in, top_in}
 use Rattle.sound_standing.proofs.highest_ceiling.Goals as goal
 
-pub loop-m-preserved : goal.loop-m-preserved
-unfolding ceiling_in
-loop-m-preserved c =
-    rw (c.larger-best.ensures, c.ceiling_for-ceiling.ensures) (highest_on _ _ _ _ c.loop-m-test.true c.loop-m.invariant)
-
+-- src/lib.rt:74:1
 pub returns : goal.returns
-unfolding ceiling_in
-returns c = highest_end _ _ _ _ c.loop-m-test.false c.loop-m.invariant
+returns c = ?

@@ -1,19 +1,12 @@
--- `owns_nothing` meets its contract. The invariant: the mutexes left decide as all do. The measure is what is left. Assumes nothing.
-use borrow.Author.Tests.{eq-eqb, ne_eqb}
-use Rattle.sound_standing.specs.Standing.{owns_nothing_in}
-use Rattle.sound_standing.proofs.Loops.{each_on, each_out, each_end}
+-- `owns_nothing` meets its contract. Assumes nothing.
+use Rattle.std.proofs.Common.{rules, ◌≡◌, ◌%◌, not, refl}
+use borrow.Author.Tests.{tests}
+use Rattle.std.proofs.lemmas.Iterator.{YieldsList-from_range}
+use Rattle.std.proofs.lemmas.Iterator.Search.{all_from_yields_List}
+use Rattle.std.specs.List.{range_with_len, list_all}
+use lib.Dec.{eqb}
+use Rattle.sound_standing.specs.Standing.{owns_nothing_in, mutex_at}
 use Rattle.sound_standing.proofs.owns_nothing.Goals as goal
 
-pub returns-then-row-t : goal.returns-then-row-t
-unfolding owns_nothing_in
-returns-then-row-t c =
-    each_out _ _ _ c.loop-m-test.true c.loop-m.invariant (rw (eq-eqb _ _ c.if-row-t.true))
-
-pub loop-m-preserved : goal.loop-m-preserved
-unfolding owns_nothing_in
-loop-m-preserved c =
-    each_on _ _ _ c.loop-m-test.true c.loop-m.invariant (rw (ne_eqb _ _ c.if-row-t.false))
-
 pub returns : goal.returns
-unfolding owns_nothing_in
-returns c = each_end _ _ _ c.loop-m-test.false c.loop-m.invariant
+returns c = let e = all_from_yields_List (λ m. not (eqb (mutex_at c.args.mutexes m).owner c.args.t)) _ _ c.all.result c.all.ensures.ran (YieldsList-from_range 0 c.args.n c.args.n refl refl) (λ x b q k. search (rules, tests)) in ?

@@ -1,24 +1,11 @@
--- `runner_of` meets its contract. The invariant: the search from the thread on finds what the whole search finds. The measure is what is left. Assumes nothing.
-use mathlib.Core.Path.{sym, refl, ◌∙◌}
-use native.Mathlib.Omega.{arith}
-use Rattle.rules.specs.Page.{where_of}
-use Rattle.sound_standing.specs.Standing.{threads_in}
-use Rattle.sound_standing.proofs.Loops.{runner_here, runner_on, runner_end}
+use Rattle.std.proofs.Common.{rules, ◌≡◌, not, ℕ, ◌+◌, ◌-◌, ◌*◌, ◌<◌, ◌≤◌, length, ◌/◌, ◌%◌, Bool, true, false, nat_eq, nat_lt, List, [], ◌∷◌, ◌++◌, slice_index_or, slice_set, bit_and, bit_or, Fits, w8, w32, w64, Bor, MutBor}
+use Rattle.units.specs.Units.{outside}
+use Rattle.rules.specs.State.{same}
+use Rattle.rules.specs.Page.{where_of, runner_from}
+use Rattle.rules.specs.Sound.{implies}
+use Rattle.sound_standing.specs.Standing.{kind_of, stands_of, ceiling_in, priorities_in, owns_nothing_in, anyone_in, threads_in, top_in}
 use Rattle.sound_standing.proofs.runner_of.Goals as goal
 
-pub loop-t-init : goal.loop-t-init
-loop-t-init c = (omega arith, refl)
-
-pub returns-then-stands : goal.returns-then-stands
-unfolding threads_in where_of
-returns-then-stands c =
-    runner_here _ _ _ _ c.loop-t-test.true c.loop-t.invariant.1 (sym c.stands.ensures ∙ c.if-stands.true)
-
-pub loop-t-preserved : goal.loop-t-preserved
-unfolding threads_in where_of
-loop-t-preserved c =
-    (omega arith, runner_on _ _ _ _ c.loop-t-test.true c.loop-t.invariant.1 (sym c.stands.ensures ∙ c.if-stands.false))
-
+-- src/lib.rt:104:1
 pub returns : goal.returns
-unfolding threads_in
-returns c = runner_end _ _ _ _ c.loop-t-test.false c.loop-t.invariant.1
+returns c = ?
