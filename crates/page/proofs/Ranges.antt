@@ -12,7 +12,9 @@ use Rattle.std.specs.List.{range_with_len, list_all, list_any}
 use Rattle.std.proofs.iter.Yields.{nat_range_steps}
 use Rattle.std.proofs.lemmas.Iterator.{YieldsList, YieldsList-from_range}
 use Rattle.std.proofs.lemmas.Iterator.Search.{all_from_yields_List, any_from_yields_List}
+use Rattle.laws.specs.Lists.{tabulate}
 use Rattle.rules.specs.Sound.{each}
+use Rattle.rules.specs.Page.{each_row}
 
 -- the numbers below n, as a range gives them
 pub numbers : (n : ℕ) → YieldsList nat_range_steps (λ x. x) (record { start = 0; end = n }) (range_with_len 0 n)
@@ -29,6 +31,12 @@ pub each_first : (n : ℕ) (f : ℕ → Bool) → each (suc n) f ≡ (f 0 && eac
 unfolding each
 each_first zero f = refl
 each_first (suc n) f = ap (λ b. f (suc n) && b) (each_first n f) ∙ second_first (f (suc n)) (f 0) (each n (λ i. f (suc i)))
+
+-- a test of each row of a table is one at each number
+pub rows_each_lem : {A : Type 0} (f : A → Bool) (n : ℕ) (g : ℕ → A) → each_row f (tabulate n g) ≡ each n (λ i. f (g i))
+unfolding each_row tabulate each
+rows_each_lem f zero g = refl
+rows_each_lem f (suc n) g = ap (λ b. f (g 0) && b) (rows_each_lem f n (λ i. g (suc i))) ∙ sym (each_first n (λ i. f (g i)))
 
 -- a test of each number from a on
 all_each : (n a : ℕ) (test f : ℕ → Bool) → ((i : ℕ) → test (i + a) ≡ f i) → list_all test (range_with_len a n) ≡ each n f

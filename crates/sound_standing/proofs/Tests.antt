@@ -12,7 +12,6 @@ use Rattle.laws.specs.Lists.{tabulate}
 use Rattle.rules.specs.State.{Mutex, highest_ceiling, owned}
 use Rattle.rules.specs.Sound.{each}
 use Rattle.rules.specs.Page.{each_row}
-use Rattle.page.proofs.Ranges.{each_first}
 use Rattle.sound_standing.specs.Standing.{highest}
 
 -- the same test below n
@@ -20,12 +19,6 @@ pub each_same : (n : ℕ) (f g : ℕ → Bool) → ((i : ℕ) → i < n → f i 
 unfolding each
 each_same zero f g h = refl
 each_same (suc n) f g h = ap₂ ◌&&◌ (h n (omega arith)) (each_same n f g (λ i k. h i (omega arith)))
-
--- a test of each row of a table is one at each number
-pub rows_each_lem : {A : Type 0} (f : A → Bool) (n : ℕ) (g : ℕ → A) → each_row f (tabulate n g) ≡ each n (λ i. f (g i))
-unfolding each_row tabulate each
-rows_each_lem f zero g = refl
-rows_each_lem f (suc n) g = ap (λ b. f (g 0) && b) (rows_each_lem f n (λ i. g (suc i))) ∙ sym (each_first n (λ i. f (g i)))
 
 -- a function of each row of a table
 pub map_tabulate : {A B : Type 0} (f : A → B) (n : ℕ) (g : ℕ → A) → map f (tabulate n g) ≡ tabulate n (λ i. f (g i))
