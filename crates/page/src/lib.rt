@@ -4,10 +4,8 @@
 ghost use Rattle.std.specs.Prelude.{◌≡◌, get_or};
 ghost use Rattle.page.specs.Says.{no_thread_row, no_mutex_row, no_timer_row, page_for, empty_page};
 
-use limits::{
-    CONDITION_ROWS, CONDITIONS, MUTEX_ROWS, MUTEXES, NONE, RUNNING, STOPPED, THREAD_ROWS, THREADS,
-    TIMER_ROWS, TIMERS,
-};
+use entries::load;
+use limits::{CONDITION_ROWS, MUTEX_ROWS, NONE, RUNNING, STOPPED, THREAD_ROWS, TIMER_ROWS};
 use units::Ticks;
 use value_effects::{FREE_MUTEX, Mutex, MutexTable, Ties};
 
@@ -71,58 +69,45 @@ pub struct Page {
 pub fn thread_row(rows: ThreadRows, t: u8) -> ThreadRow
     ensures { result ≡ get_or rows t no_thread_row }
 {
-    if t < THREADS {
-        let i = t as usize;
-        return rows[i];
-    }
-    ThreadRow {
+    let zeros = ThreadRow {
         base: 0,
         state: 0,
         object: 0,
         place: 0,
-    }
+    };
+    load(&rows, t as usize, zeros)
 }
 
 // The row of mutex m; past the table zeros.
 pub fn mutex_row(rows: MutexTable, m: u8) -> Mutex
     ensures { result ≡ get_or rows m no_mutex_row }
 {
-    if m < MUTEXES {
-        let i = m as usize;
-        return rows[i];
-    }
-    Mutex {
+    let zeros = Mutex {
         ceiling: 0,
         owner: 0,
         count: 0,
-    }
+    };
+    load(&rows, m as usize, zeros)
 }
 
 // The tie of condition variable c; past the table 0.
 pub fn tie_row(ties: Ties, c: u8) -> u8
     ensures { result ≡ get_or ties c 0 }
 {
-    if c < CONDITIONS {
-        let i = c as usize;
-        return ties[i];
-    }
-    0
+    load(&ties, c as usize, 0)
 }
 
 // The row of timer t; past the table zeros.
 pub fn timer_row(rows: TimerRows, t: u8) -> TimerRow
     ensures { result ≡ get_or rows t no_timer_row }
 {
-    if t < TIMERS {
-        let i = t as usize;
-        return rows[i];
-    }
-    TimerRow {
+    let zeros = TimerRow {
         state: 0,
         condition: 0,
         length: Ticks(0),
         left: Ticks(0),
-    }
+    };
+    load(&rows, t as usize, zeros)
 }
 
 impl Page {

@@ -1,3 +1,2 @@
-pub mod Testing
 pub mod Tables
 pub mod Forms

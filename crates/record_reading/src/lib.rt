@@ -9,10 +9,8 @@ ghost use Rattle.record_bytes.specs.Record.{byte, word_at, record_of};
 ghost use Rattle.page.specs.Says.{thread_said, timer_said, no_thread_row, no_timer_row, said, thread_for, mutex_for, timer_for};
 ghost use Rattle.record_reading.specs.Rows.{thread_at, mutex_at, timer_at, thread_or, mutex_or, tie_or, timer_or, read_model, wrong_form, open_model, fitting, agree, same_bytes};
 
-use limits::{
-    CONDITION_ROWS, CONDITIONS, MUTEX_ROWS, MUTEXES, NONE, ON_CONDITION, PERIODIC, READY,
-    THREAD_ROWS, THREADS, TIMER_ROWS, TIMERS,
-};
+use entries::load;
+use limits::{CONDITIONS, MUTEXES, NONE, ON_CONDITION, PERIODIC, READY, THREADS, TIMERS};
 use page::{
     BLANK_ROW, Page, STOPPED_ROW, ThreadRow, ThreadRows, TimerRow, TimerRows, thread_row, timer_row,
 };
@@ -20,6 +18,7 @@ use record_writing::{
     BYTE, CONDITION_COUNT, HEADER, LONGEST_RECORD, MUTEX_COUNT, ROW_BYTES, STARTED, THREAD_COUNT,
     TICKS_HIGH, TICKS_LOW, TIMER_BYTES, TIMER_COUNT, WORD, total, write,
 };
+use std::array;
 use units::Ticks;
 use value_effects::{FREE_MUTEX, Mutex, MutexTable, Ties};
 
@@ -52,10 +51,7 @@ pub struct Opened {
 fn byte_at(bytes: &[u8], at: usize) -> u8
     ensures { result ≡ byte bytes.now at }
 {
-    if at < bytes.len() {
-        return bytes[at];
-    }
-    0
+    load(bytes, at, 0)
 }
 
 // The number of 16 bits at a place, low byte first.
@@ -161,63 +157,28 @@ fn timer_or(bytes: &[u8], at: u16, n: u8, i: u8) -> TimerRow
 fn read_threads(bytes: &[u8], at: u16, n: u8) -> ThreadRows
     ensures { result ≡ tabulate 32 (thread_or bytes.now at n) }
 {
-    let blank = BLANK_ROW;
-    let mut rows = [blank; THREAD_ROWS];
-    let mut t: u8 = 0;
-    while t < THREADS {
-        let row = thread_or(bytes, at, n, t);
-        let i = t as usize;
-        rows[i] = row;
-        t += 1;
-    }
-    rows
+    array::from_fn(|t| thread_or(bytes, at, n, t as u8))
 }
 
 // A table of n mutexes.
 fn read_mutexes(bytes: &[u8], at: u16, n: u8) -> MutexTable
     ensures { result ≡ tabulate 16 (mutex_or bytes.now at n) }
 {
-    let free = FREE_MUTEX;
-    let mut rows = [free; MUTEX_ROWS];
-    let mut m: u8 = 0;
-    while m < MUTEXES {
-        let row = mutex_or(bytes, at, n, m);
-        let i = m as usize;
-        rows[i] = row;
-        m += 1;
-    }
-    rows
+    array::from_fn(|m| mutex_or(bytes, at, n, m as u8))
 }
 
 // A table of n condition variables.
 fn read_ties(bytes: &[u8], at: u16, n: u8) -> Ties
     ensures { result ≡ tabulate 16 (tie_or bytes.now at n) }
 {
-    let mut ties = [NONE; CONDITION_ROWS];
-    let mut c: u8 = 0;
-    while c < CONDITIONS {
-        let tie = tie_or(bytes, at, n, c);
-        let i = c as usize;
-        ties[i] = tie;
-        c += 1;
-    }
-    ties
+    array::from_fn(|c| tie_or(bytes, at, n, c as u8))
 }
 
 // A table of n timers.
 fn read_timers(bytes: &[u8], at: u16, n: u8) -> TimerRows
     ensures { result ≡ tabulate 32 (timer_or bytes.now at n) }
 {
-    let stopped = STOPPED_ROW;
-    let mut rows = [stopped; TIMER_ROWS];
-    let mut t: u8 = 0;
-    while t < TIMERS {
-        let row = timer_or(bytes, at, n, t);
-        let i = t as usize;
-        rows[i] = row;
-        t += 1;
-    }
-    rows
+    array::from_fn(|t| timer_or(bytes, at, n, t as u8))
 }
 
 // The page of so many threads, mutexes, condition variables and timers, whose tables follow the header without gaps.
@@ -252,41 +213,21 @@ fn read(bytes: &[u8], threads: u8, mutexes: u8, conditions: u8, timers: u8) -> P
 fn thread_formed(row: ThreadRow) -> bool
     ensures { result ≡ thread_formed (thread_said row) }
 {
-    if row.state < READY {
-        return false;
-    }
-    row.state <= ON_CONDITION
+    READY <= row.state && row.state <= ON_CONDITION
 }
 
 // The states of n threads are among the document's.
 fn threads_formed(rows: ThreadRows, n: u8) -> bool
     ensures { result ≡ each_row thread_formed (tabulate n (λ t. thread_said (get_or rows t no_thread_row))) }
 {
-    let mut t: u8 = 0;
-    while t < n {
-        let row = thread_row(rows, t);
-        let formed = thread_formed(row);
-        if !formed {
-            return false;
-        }
-        t += 1;
-    }
-    true
+    (0..n).all(|t| thread_formed(thread_row(rows, t)))
 }
 
 // The states of n timers are among the document's.
 fn timers_formed(rows: TimerRows, n: u8) -> bool
     ensures { result ≡ each_row timer_formed (tabulate n (λ i. timer_said (get_or rows i no_timer_row))) }
 {
-    let mut i: u8 = 0;
-    while i < n {
-        let row = timer_row(rows, i);
-        if PERIODIC < row.state {
-            return false;
-        }
-        i += 1;
-    }
-    true
+    (0..n).all(|i| timer_row(rows, i).state <= PERIODIC)
 }
 
 // The states of all threads and timers of a page are among the document's.
@@ -306,16 +247,7 @@ fn states_formed(page: Page) -> bool
 fn agree_first(one: &[u8], other: &[u8], n: usize) -> bool
     ensures { result ≡ agree n one.now other.now }
 {
-    let mut left = n;
-    while 0 < left {
-        left -= 1;
-        let x = byte_at(one, left);
-        let y = byte_at(other, left);
-        if x != y {
-            return false;
-        }
-    }
-    true
+    (0..n).all(|i| byte_at(one, i) == byte_at(other, i))
 }
 
 // The bytes are the record of a page; no record is longer than 536 bytes.
@@ -349,19 +281,11 @@ fn is_formed(bytes: &[u8], page: Page) -> bool
 fn counts_fit(threads: u16, mutexes: u16, conditions: u16, timers: u16) -> bool
     ensures { result ≡ fitting threads mutexes conditions timers }
 {
-    if threads < 1 {
-        return false;
-    }
-    if MOST_THREADS < threads {
-        return false;
-    }
-    if MOST_MUTEXES < mutexes {
-        return false;
-    }
-    if MOST_CONDITIONS < conditions {
-        return false;
-    }
-    timers <= MOST_TIMERS
+    1 <= threads
+        && threads <= MOST_THREADS
+        && mutexes <= MOST_MUTEXES
+        && conditions <= MOST_CONDITIONS
+        && timers <= MOST_TIMERS
 }
 
 // A buffer of wrong form.

@@ -6,14 +6,10 @@ use mathlib.Core.List.{List, [], ◌∷◌, ◌++◌, flatten}
 use native.Mathlib.Nat.{add_comm, add_assoc, mul-suc}
 use native.Mathlib.Omega.{arith}
 use lib.ListN.{length, set, length-append}
-use lib.Seq.{sets, length-sets}
+use lib.Seq.{sets}
 use Rattle.laws.specs.Lists.{tabulate}
 use Rattle.laws.proofs.Lists.{tabulate_same}
 use Rattle.record_writing.specs.Tables.{table_from}
-
--- a store keeps the length
-pub kept : (b c : List ℕ) (at : ℕ) (xs : List ℕ) → c ≡ sets b at xs → length c ≡ length b
-kept b c at xs e = ap length e ∙ length-sets b at xs
 
 -- two lists of bytes stored one after the other are stored as one
 pub sets_append : (b : List ℕ) (at : ℕ) (xs ys : List ℕ) → sets (sets b at xs) (at + length xs) ys ≡ sets b at (xs ++ ys)

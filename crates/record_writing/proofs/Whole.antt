@@ -2,11 +2,12 @@
 -- Assumes nothing.
 use Prim.Native.Nat.{ℕ, zero, suc, ◌+◌, ◌*◌, ◌/◌, ◌%◌}
 use mathlib.Core.Path.{◌≡◌, refl, sym, ap, ap₂, ◌∙◌}
-use mathlib.Core.Bool.{cond}
+use mathlib.Core.Bool.{Bool, true, false, cond}
 use mathlib.Core.List.{List, ◌∷◌, ◌++◌, map, flatten, append_assoc}
 use native.Mathlib.Omega.{arith}
 use lib.ListN.{length, get_or, length-append}
 use lib.Seq.{sets}
+use Rattle.std.specs.Int.{from_bool}
 use Rattle.laws.specs.Lists.{tabulate}
 use Rattle.laws.proofs.Lists.{length_tabulate, tabulate_same}
 use Rattle.record_bytes.specs.Record.{word, packed, header_bytes, header_of, thread_bytes, mutex_bytes, tie_bytes, timer_bytes, record_of}
@@ -18,6 +19,11 @@ use Rattle.record_writing.specs.Tables.{table_from, thread_row, mutex_row, tie_r
 use Rattle.record_writing.proofs.Stores.{then, length_rows}
 
 -- ---- the header
+
+-- whether started, as a number
+pub as_bit : (b : Bool) → from_bool b ≡ cond b 1 0
+as_bit true = refl
+as_bit false = refl
 
 -- six pairs of words, one after the other
 pub header_stored : {b₁ b₂ b₃ b₄ b₅ b₆ : List ℕ} (b : List ℕ) (x : Page)

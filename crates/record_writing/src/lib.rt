@@ -2,12 +2,13 @@
 // touched.
 #![tactic(auto)]
 
-ghost use Rattle.std.specs.Prelude.{◌+◌, ◌*◌, ◌≡◌, cond, [], ◌∷◌, ◌++◌, length};
+ghost use Rattle.std.specs.Prelude.{◌+◌, ◌*◌, ◌≡◌, [], ◌∷◌, ◌++◌, length};
 ghost use Rattle.std.proofs.lemmas.List.Edits.{sets};
 ghost use Rattle.record_bytes.specs.Record.{word, header_bytes, timer_bytes, record_of};
 ghost use Rattle.page.specs.Says.{timer_said, said};
 ghost use Rattle.record_writing.specs.Tables.{header_for, table_from, thread_row, mutex_row, tie_row, timer_row};
 
+use entries::store;
 use page::{Page, ThreadRows, TimerRow, TimerRows, mutex_row, thread_row, tie_row, timer_row};
 use value_effects::{MutexTable, Ties};
 
@@ -65,24 +66,15 @@ pub const BYTE: u16 = 256;
 // The numbers that 16 bits can be.
 pub const WORD: u32 = 65536;
 
-// One byte; past the buffer's end nothing is stored.
-fn put(buffer: &mut [u8], at: usize, value: u8)
-    ensures { buffer.new ≡ sets buffer.old at (value ∷ []) }
-{
-    if at < buffer.len() {
-        buffer[at] = value;
-    }
-}
-
-// Four bytes, one after the other.
+// Four bytes, one after the other; past the buffer's end nothing is stored.
 fn put_four(buffer: &mut [u8], at: u32, a: u8, b: u8, c: u8, d: u8)
     ensures { buffer.new ≡ sets buffer.old at (a ∷ b ∷ c ∷ d ∷ []) }
 {
     let i = at as usize;
-    put(buffer, i, a);
-    put(buffer, i + 1, b);
-    put(buffer, i + 2, c);
-    put(buffer, i + 3, d);
+    store(buffer, i, a);
+    store(buffer, i + 1, b);
+    store(buffer, i + 2, c);
+    store(buffer, i + 3, d);
 }
 
 // Two numbers of 16 bits, low byte first.
@@ -99,16 +91,6 @@ fn put_words(buffer: &mut [u8], at: u32, x: u16, y: u16)
     )
 }
 
-// 1 if started, else 0.
-fn started_word(started: bool) -> u16
-    ensures { result ≡ cond started 1 0 }
-{
-    if started {
-        return 1;
-    }
-    0
-}
-
 // The header, from the first byte on.
 fn write_header(page: Page, buffer: &mut [u8])
     ensures { buffer.new ≡ sets buffer.old 0 (header_bytes (header_for page)) }
@@ -121,7 +103,7 @@ fn write_header(page: Page, buffer: &mut [u8])
     let conditions_at = mutexes_at + ROW_BYTES * mutexes;
     let timers_at = conditions_at + ROW_BYTES * conditions;
     let total = timers_at + TIMER_BYTES * timers;
-    let started = started_word(page.started);
+    let started = u16::from(page.started);
     put_words(buffer, THREAD_COUNT, threads, mutexes);
     put_words(buffer, CONDITION_COUNT, conditions, timers);
     put_words(buffer, THREADS_PLACE, HEADER, mutexes_at);
@@ -139,8 +121,7 @@ fn write_header(page: Page, buffer: &mut [u8])
 fn write_threads(rows: ThreadRows, count: u8, buffer: &mut [u8], at: u16)
     ensures { buffer.new ≡ sets buffer.old at (table_from (thread_row rows) count 0) }
 {
-    let mut t: u8 = 0;
-    while t < count {
+    for t in 0..count {
         let row = thread_row(rows, t);
         put_four(
             buffer,
@@ -150,7 +131,6 @@ fn write_threads(rows: ThreadRows, count: u8, buffer: &mut [u8], at: u16)
             row.object,
             row.place,
         );
-        t += 1;
     }
 }
 
@@ -158,8 +138,7 @@ fn write_threads(rows: ThreadRows, count: u8, buffer: &mut [u8], at: u16)
 fn write_mutexes(rows: MutexTable, count: u8, buffer: &mut [u8], at: u16)
     ensures { buffer.new ≡ sets buffer.old at (table_from (mutex_row rows) count 0) }
 {
-    let mut m: u8 = 0;
-    while m < count {
+    for m in 0..count {
         let row = mutex_row(rows, m);
         put_four(
             buffer,
@@ -169,7 +148,6 @@ fn write_mutexes(rows: MutexTable, count: u8, buffer: &mut [u8], at: u16)
             row.count,
             0,
         );
-        m += 1;
     }
 }
 
@@ -177,11 +155,9 @@ fn write_mutexes(rows: MutexTable, count: u8, buffer: &mut [u8], at: u16)
 fn write_ties(ties: Ties, count: u8, buffer: &mut [u8], at: u16)
     ensures { buffer.new ≡ sets buffer.old at (table_from (tie_row ties) count 0) }
 {
-    let mut c: u8 = 0;
-    while c < count {
+    for c in 0..count {
         let tie = tie_row(ties, c);
         put_four(buffer, at as u32 + ROW_STEP * (c as u32), tie, 0, 0, 0);
-        c += 1;
     }
 }
 
@@ -200,11 +176,9 @@ fn put_timer(buffer: &mut [u8], at: u16, i: u8, row: TimerRow)
 fn write_timers(rows: TimerRows, count: u8, buffer: &mut [u8], at: u16)
     ensures { buffer.new ≡ sets buffer.old at (table_from (timer_row rows) count 0) }
 {
-    let mut i: u8 = 0;
-    while i < count {
+    for i in 0..count {
         let row = timer_row(rows, i);
         put_timer(buffer, at, i, row);
-        i += 1;
     }
 }
 

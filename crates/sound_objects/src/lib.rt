@@ -19,16 +19,7 @@ use value_effects::{Mutex, MutexTable, Ties};
 pub fn ceilings_sound(mutexrows: MutexTable, mutexes: u8) -> bool
     ensures { result ≡ ceilings_in mutexrows mutexes }
 {
-    let mut m = mutexes;
-    while 0 < m {
-        m -= 1;
-        let i = (m % MUTEXES) as usize;
-        let row = mutexrows[i];
-        if !within(1, HIGHEST, row.ceiling) {
-            return false;
-        }
-    }
-    true
+    (0..mutexes).all(|m| within(1, HIGHEST, mutexrows[(m % MUTEXES) as usize].ceiling))
 }
 
 // A waiter for mutex m isn't its owner and its priority isn't above the ceiling.
@@ -51,16 +42,10 @@ fn mutex_waiters_fit(
 ) -> bool
     ensures { result ≡ mutex_waiters_in threadrows threads priorities m row }
 {
-    let mut t = threads;
-    while 0 < t {
-        t -= 1;
+    (0..threads).all(|t| {
         let i = (t % THREADS) as usize;
-        let other = threadrows[i];
-        if !mutex_waiter_fits(m, row, t, other, priorities[i]) {
-            return false;
-        }
-    }
-    true
+        mutex_waiter_fits(m, row, t, threadrows[i], priorities[i])
+    })
 }
 
 // A free mutex has owner 255, count 0 and no waiter; an owned one has an existing owner, count 1 to 255, owner's base not above the ceiling.
@@ -105,16 +90,10 @@ pub fn mutexes_sound(
 ) -> bool
     ensures { result ≡ mutexes_in mutexrows mutexes threadrows threads priorities }
 {
-    let mut m = mutexes;
-    while 0 < m {
-        m -= 1;
-        let i = (m % MUTEXES) as usize;
-        let row = mutexrows[i];
-        if !mutex_fits(threadrows, threads, priorities, m, row) {
-            return false;
-        }
-    }
-    true
+    (0..mutexes).all(|m| {
+        let row = mutexrows[(m % MUTEXES) as usize];
+        mutex_fits(threadrows, threads, priorities, m, row)
+    })
 }
 
 // The ceiling of mutex m, of the first n; 0 for one that is not there.
@@ -157,16 +136,10 @@ fn condition_waiters_fit(
 ) -> bool
     ensures { result ≡ condition_waiters_in threadrows threads mutexrows mutexes c ceiling }
 {
-    let mut t = threads;
-    while 0 < t {
-        t -= 1;
-        let i = (t % THREADS) as usize;
-        let row = threadrows[i];
-        if !condition_waiter_fits(mutexrows, mutexes, c, ceiling, t, row) {
-            return false;
-        }
-    }
-    true
+    (0..threads).all(|t| {
+        let row = threadrows[(t % THREADS) as usize];
+        condition_waiter_fits(mutexrows, mutexes, c, ceiling, t, row)
+    })
 }
 
 // A condition variable is tied exactly while someone waits on it, to a mutex that exists.
@@ -210,15 +183,10 @@ pub fn conditions_sound(
 ) -> bool
     ensures { result ≡ conditions_in ties conditions threadrows threads mutexrows mutexes }
 {
-    let mut c = conditions;
-    while 0 < c {
-        c -= 1;
+    (0..conditions).all(|c| {
         let i = (c % CONDITIONS) as usize;
-        if !condition_fits(threadrows, threads, mutexrows, mutexes, c, ties[i]) {
-            return false;
-        }
-    }
-    true
+        condition_fits(threadrows, threads, mutexrows, mutexes, c, ties[i])
+    })
 }
 
 // The ticks of a running timer: n from 1, and ticks left from 1 to n if it expires once, else to n + 1; a count of ticks is never above 65,535.
@@ -253,14 +221,5 @@ fn timer_fits(conditions: u8, row: TimerRow) -> bool
 pub fn timers_sound(timerrows: TimerRows, timers: u8, conditions: u8) -> bool
     ensures { result ≡ timers_in timerrows timers conditions }
 {
-    let mut timer = timers;
-    while 0 < timer {
-        timer -= 1;
-        let i = (timer % TIMERS) as usize;
-        let row = timerrows[i];
-        if !timer_fits(conditions, row) {
-            return false;
-        }
-    }
-    true
+    (0..timers).all(|timer| timer_fits(conditions, timerrows[(timer % TIMERS) as usize]))
 }

@@ -7,7 +7,6 @@ ghost use Rattle.rules.specs.Page.{page_formed, page_sound};
 ghost use Rattle.page.specs.Says.{said};
 ghost use Rattle.sound_page.specs.WholePage.{limits_in, threads_formed_in, timers_formed_in, form_in, all_ready_in, nothing_owned_in, no_timer_runs_in, rest_in};
 
-use choice::both;
 use limits::{CONDITIONS, MUTEXES, NONE, ON_CONDITION, PERIODIC, READY, STOPPED, THREADS, TIMERS};
 use page::{Page, ThreadRows, TimerRows};
 use sound_objects::{ceilings_sound, conditions_sound, mutexes_sound, timers_sound};
@@ -22,102 +21,55 @@ use value_effects::MutexTable;
 pub fn limits_sound(threads: u8, mutexes: u8, conditions: u8, timers: u8) -> bool
     ensures { result ≡ limits_in threads mutexes conditions timers }
 {
-    let some = within(1, THREADS, threads);
-    both(
-        some,
-        both(
-            mutexes <= MUTEXES,
-            both(conditions <= CONDITIONS, timers <= TIMERS),
-        ),
-    )
+    within(1, THREADS, threads)
+        && mutexes <= MUTEXES
+        && conditions <= CONDITIONS
+        && timers <= TIMERS
 }
 
 // The state of each thread is 1 to 4.
 fn threads_formed(threadrows: ThreadRows, threads: u8) -> bool
     ensures { result ≡ threads_formed_in threadrows threads }
 {
-    let mut t = threads;
-    while 0 < t {
-        t -= 1;
-        let i = (t % THREADS) as usize;
-        let row = threadrows[i];
-        if !within(READY, ON_CONDITION, row.state) {
-            return false;
-        }
-    }
-    true
+    (0..threads).all(|t| {
+        let row = threadrows[(t % THREADS) as usize];
+        within(READY, ON_CONDITION, row.state)
+    })
 }
 
 // The state of each timer is at most 2.
 fn timers_formed(timerrows: TimerRows, timers: u8) -> bool
     ensures { result ≡ timers_formed_in timerrows timers }
 {
-    let mut timer = timers;
-    while 0 < timer {
-        timer -= 1;
-        let i = (timer % TIMERS) as usize;
-        let row = timerrows[i];
-        if PERIODIC < row.state {
-            return false;
-        }
-    }
-    true
+    (0..timers).all(|timer| timerrows[(timer % TIMERS) as usize].state <= PERIODIC)
 }
 
 // The form of the states.
 pub fn form_sound(threadrows: ThreadRows, threads: u8, timerrows: TimerRows, timers: u8) -> bool
     ensures { result ≡ form_in threadrows threads timerrows timers }
 {
-    let formed = threads_formed(threadrows, threads);
-    both(formed, timers_formed(timerrows, timers))
+    threads_formed(threadrows, threads) && timers_formed(timerrows, timers)
 }
 
 // All threads are ready.
 fn all_ready(threadrows: ThreadRows, threads: u8) -> bool
     ensures { result ≡ all_ready_in threadrows threads }
 {
-    let mut t = threads;
-    while 0 < t {
-        t -= 1;
-        let i = (t % THREADS) as usize;
-        let row = threadrows[i];
-        if !stands(row, READY, NONE) {
-            return false;
-        }
-    }
-    true
+    (0..threads).all(|t| stands(threadrows[(t % THREADS) as usize], READY, NONE))
 }
 
 // Nothing is owned.
 fn nothing_owned(mutexrows: MutexTable, mutexes: u8) -> bool
     ensures { result ≡ nothing_owned_in mutexrows mutexes }
 {
-    let mut m = mutexes;
-    while 0 < m {
-        m -= 1;
-        let i = (m % MUTEXES) as usize;
-        let row = mutexrows[i];
-        if row.owner != NONE {
-            return false;
-        }
-    }
-    true
+    (0..mutexes).all(|m| mutexrows[(m % MUTEXES) as usize].owner == NONE)
 }
 
 // No timer runs.
 fn no_timer_runs(timerrows: TimerRows, timers: u8) -> bool
     ensures { result ≡ no_timer_runs_in timerrows timers }
 {
-    let mut timer = timers;
-    while 0 < timer {
-        timer -= 1;
-        let i = (timer % TIMERS) as usize;
-        let row = timerrows[i];
-        if row.state != STOPPED {
-            return false;
-        }
-    }
-    true
+    (0..timers).all(|timer| timerrows[(timer % TIMERS) as usize].state == STOPPED)
 }
 
 // The clause on rest: while stopped all threads are ready, nothing is owned, no timer runs, the count is 0.
@@ -136,10 +88,10 @@ pub fn rest_sound(
     if started {
         return true;
     }
-    let ready = all_ready(threadrows, threads);
-    let free = nothing_owned(mutexrows, mutexes);
-    let still = no_timer_runs(timerrows, timers);
-    both(ready, both(free, both(still, count == 0)))
+    all_ready(threadrows, threads)
+        && nothing_owned(mutexrows, mutexes)
+        && no_timer_runs(timerrows, timers)
+        && count == 0
 }
 
 // Whether a page is formed and sound: the limits first, then clause by clause.

@@ -21,8 +21,9 @@ use Rattle.rules_pages.proofs.Rows.{thread_of_lem}
 use Rattle.value_effects.specs.Effects.{ceiling_for}
 use Rattle.page.specs.declared.Page.{Page}
 use Rattle.page.specs.Says.{thread_said, mutex_said, timer_said, no_thread_row, no_mutex_row, no_timer_row, said}
+use Rattle.page.proofs.Ranges.{rows_each_lem}
 use Rattle.sound_standing.specs.Standing.{row_at, mutex_at, tie_at, timer_at, priority_at, stands_of, ceiling_in, priorities_in, owns_nothing_in, nobody_in, anyone_in, threads_in, top_in}
-use Rattle.sound_standing.proofs.Tests.{each_same, rows_each_lem, map_tabulate, ceiling_highest, owned_none}
+use Rattle.sound_standing.proofs.Tests.{each_same, map_tabulate, ceiling_highest, owned_none}
 
 -- the rows of the state that a page describes
 abbrev pub rows : Page → Rows

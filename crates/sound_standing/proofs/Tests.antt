@@ -20,24 +20,6 @@ unfolding each
 each_same zero f g h = refl
 each_same (suc n) f g h = ap₂ ◌&&◌ (h n (omega arith)) (each_same n f g (λ i k. h i (omega arith)))
 
--- of three tests the second first
-second_first : (a b c : Bool) → (a && (b && c)) ≡ (b && (a && c))
-second_first true b c = refl
-second_first false true c = refl
-second_first false false c = refl
-
--- the first number apart
-each_first : (n : ℕ) (f : ℕ → Bool) → each (suc n) f ≡ (f 0 && each n (λ i. f (suc i)))
-unfolding each
-each_first zero f = refl
-each_first (suc n) f = ap (λ b. f (suc n) && b) (each_first n f) ∙ second_first (f (suc n)) (f 0) (each n (λ i. f (suc i)))
-
--- a test of each row of a table is one at each number
-pub rows_each_lem : {A : Type 0} (f : A → Bool) (n : ℕ) (g : ℕ → A) → each_row f (tabulate n g) ≡ each n (λ i. f (g i))
-unfolding each_row tabulate each
-rows_each_lem f zero g = refl
-rows_each_lem f (suc n) g = ap (λ b. f (g 0) && b) (rows_each_lem f n (λ i. g (suc i))) ∙ sym (each_first n (λ i. f (g i)))
-
 -- a function of each row of a table
 pub map_tabulate : {A B : Type 0} (f : A → B) (n : ℕ) (g : ℕ → A) → map f (tabulate n g) ≡ tabulate n (λ i. f (g i))
 unfolding tabulate
@@ -45,7 +27,7 @@ map_tabulate f zero g = refl
 map_tabulate f (suc n) g = ap (λ l. f (g 0) ∷ l) (map_tabulate f n (λ i. g (suc i)))
 
 -- the largest, with the first number apart
-highest_first_lem : (n : ℕ) (f : ℕ → ℕ) → highest (suc n) f ≡ max (f 0) (highest n (λ i. f (suc i)))
+pub highest_first_lem : (n : ℕ) (f : ℕ → ℕ) → highest (suc n) f ≡ max (f 0) (highest n (λ i. f (suc i)))
 unfolding highest
 highest_first_lem zero f = refl
 highest_first_lem (suc n) f = omega (arith, highest_first_lem n f)

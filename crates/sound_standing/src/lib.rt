@@ -2,16 +2,17 @@
 // An id is taken modulo the size of its table, so that every function is total; the limits are tested first.
 #![tactic(auto)]
 
-ghost use Rattle.std.specs.Prelude.{◌≡◌, not};
+ghost use Rattle.std.specs.Prelude.{◌≡◌, max, not};
 ghost use Rattle.units.specs.Units.{outside};
 ghost use Rattle.rules.specs.State.{same};
 ghost use Rattle.rules.specs.Page.{where_of, runner_from};
 ghost use Rattle.rules.specs.Sound.{implies};
-ghost use Rattle.sound_standing.specs.Standing.{kind_of, stands_of, ceiling_in, priorities_in, owns_nothing_in, anyone_in, threads_in, top_in};
+ghost use Rattle.sound_standing.specs.Standing.{row_at, kind_of, stands_of, ceiling_in, priorities_in, owns_nothing_in, anyone_in, threads_in, top_in};
 
 use choice::larger;
 use limits::{FOR_MUTEX, MUTEXES, NONE, ON_CONDITION, READY, RUNNING, THREAD_ROWS, THREADS};
 use page::{ThreadRow, ThreadRows};
+use std::array;
 use value_effects::{MutexTable, ceiling_for};
 
 // The priority of each thread.
@@ -21,20 +22,14 @@ pub type Priorities = [u8; THREAD_ROWS];
 pub fn implied(x: bool, y: bool) -> bool
     ensures { result ≡ implies x y }
 {
-    if x {
-        return y;
-    }
-    true
+    !x || y
 }
 
 // Whether a number is from low to high.
 pub fn within(low: u8, high: u8, x: u8) -> bool
     ensures { result ≡ not (outside low high x) }
 {
-    if x < low {
-        return false;
-    }
-    !(high < x)
+    low <= x && x <= high
 }
 
 // The kind of a thread state: 1, 2, 3, and 4 for every other number.
@@ -72,80 +67,48 @@ pub fn stands(row: ThreadRow, state: u8, object: u8) -> bool
 fn highest_ceiling(mutexes: MutexTable, n: u8, t: u8) -> u8
     ensures { result ≡ ceiling_in mutexes n t }
 {
-    let mut best: u8 = 0;
-    let mut m = n;
-    while 0 < m {
-        m -= 1;
-        let i = (m % MUTEXES) as usize;
-        let row = mutexes[i];
-        let ceiling = ceiling_for(row, t);
-        best = larger(ceiling, best);
-    }
-    best
+    (0..n)
+        .map(|m| ceiling_for(mutexes[(m % MUTEXES) as usize], t))
+        .max()
+        .unwrap_or(0)
+}
+
+// The priority of thread t, with the first n mutexes.
+fn priority_of(rows: ThreadRows, mutexes: MutexTable, n: u8, t: u8) -> u8
+    ensures { result ≡ max (row_at rows t).base (ceiling_in mutexes n t) }
+{
+    let row = rows[(t % THREADS) as usize];
+    row.base.max(highest_ceiling(mutexes, n, t))
 }
 
 // The priority of each thread, with the first n mutexes.
 pub fn priorities_of(rows: ThreadRows, mutexes: MutexTable, n: u8) -> Priorities
     ensures { result ≡ priorities_in rows mutexes n }
 {
-    let mut priorities = [0u8; THREAD_ROWS];
-    let mut t: u8 = 0;
-    while t < THREADS {
-        let i = t as usize;
-        let row = rows[i];
-        let ceiling = highest_ceiling(mutexes, n, t);
-        priorities[i] = larger(row.base, ceiling);
-        t += 1;
-    }
-    priorities
+    array::from_fn(|t| priority_of(rows, mutexes, n, t as u8))
 }
 
 // Whether thread t owns none of the first n mutexes.
 pub fn owns_nothing(mutexes: MutexTable, n: u8, t: u8) -> bool
     ensures { result ≡ owns_nothing_in mutexes n t }
 {
-    let mut m = n;
-    while 0 < m {
-        m -= 1;
-        let i = (m % MUTEXES) as usize;
-        let row = mutexes[i];
-        if row.owner == t {
-            return false;
-        }
-    }
-    true
+    (0..n).all(|m| mutexes[(m % MUTEXES) as usize].owner != t)
 }
 
 // Whether any of the first n threads stands where this state and object say.
 pub fn anyone(rows: ThreadRows, n: u8, state: u8, object: u8) -> bool
     ensures { result ≡ anyone_in rows n (where_of state object) }
 {
-    let mut t = n;
-    while 0 < t {
-        t -= 1;
-        let i = (t % THREADS) as usize;
-        let row = rows[i];
-        if stands(row, state, object) {
-            return true;
-        }
-    }
-    false
+    (0..n).any(|t| stands(rows[(t % THREADS) as usize], state, object))
 }
 
 // The first of the first n threads that runs, 255 for none.
 pub fn runner_of(rows: ThreadRows, n: u8) -> u8
     ensures { result ≡ runner_from 0 (threads_in rows n) }
 {
-    let mut t: u8 = 0;
-    while t < n {
-        let i = (t % THREADS) as usize;
-        let row = rows[i];
-        if stands(row, RUNNING, NONE) {
-            return t;
-        }
-        t += 1;
-    }
-    NONE
+    (0..n)
+        .find(|&t| stands(rows[(t % THREADS) as usize], RUNNING, NONE))
+        .unwrap_or(NONE)
 }
 
 // The priority of thread t with the first `count` mutexes; its base is 0 if it is none of the first n threads.

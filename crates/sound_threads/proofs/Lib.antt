@@ -1,2 +1,3 @@
 pub mod Waiting
 pub mod Clauses
+pub mod Counts

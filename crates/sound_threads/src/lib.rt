@@ -2,7 +2,7 @@
 // An id is taken modulo the size of its table, so that every function is total; the limits are tested first.
 #![tactic(auto)]
 
-ghost use Rattle.std.specs.Prelude.{◌≡◌, cond};
+ghost use Rattle.std.specs.Prelude.{◌≡◌};
 ghost use Rattle.sound_standing.specs.Standing.{stands_of};
 ghost use Rattle.sound_threads.specs.Threads.{base_fits, bases_in, idle_in, runs_fits, runs_in, runner_fits, runner_in, not_above, none_above_in, exists_in, objects_exist_in, object_fits, object_codes_in, beside_in, counted_in, place_fits, places_in};
 
@@ -26,16 +26,7 @@ fn base_fits(t: u8, base: u8) -> bool
 pub fn bases_sound(threadrows: ThreadRows, threads: u8) -> bool
     ensures { result ≡ bases_in threadrows threads }
 {
-    let mut t = threads;
-    while 0 < t {
-        t -= 1;
-        let i = (t % THREADS) as usize;
-        let row = threadrows[i];
-        if !base_fits(t, row.base) {
-            return false;
-        }
-    }
-    true
+    (0..threads).all(|t| base_fits(t, threadrows[(t % THREADS) as usize].base))
 }
 
 // The clause on thread 0: it is ready or running and owns nothing.
@@ -60,16 +51,7 @@ fn runs_fits(started: bool, runner: u8, t: u8, row: ThreadRow) -> bool
 fn runs_sound(started: bool, runner: u8, threadrows: ThreadRows, threads: u8) -> bool
     ensures { result ≡ runs_in started runner threadrows threads }
 {
-    let mut t = threads;
-    while 0 < t {
-        t -= 1;
-        let i = (t % THREADS) as usize;
-        let row = threadrows[i];
-        if !runs_fits(started, runner, t, row) {
-            return false;
-        }
-    }
-    true
+    (0..threads).all(|t| runs_fits(started, runner, t, threadrows[(t % THREADS) as usize]))
 }
 
 // The runner exists if started, and is none if stopped.
@@ -108,16 +90,10 @@ pub fn none_above(
 ) -> bool
     ensures { result ≡ none_above_in started top threadrows threads priorities }
 {
-    let mut t = threads;
-    while 0 < t {
-        t -= 1;
+    (0..threads).all(|t| {
         let i = (t % THREADS) as usize;
-        let row = threadrows[i];
-        if !not_above(started, top, row, priorities[i]) {
-            return false;
-        }
-    }
-    true
+        not_above(started, top, threadrows[i], priorities[i])
+    })
 }
 
 // The object that a thread waits for exists.
@@ -138,42 +114,24 @@ fn object_exists(mutexes: u8, conditions: u8, row: ThreadRow) -> bool
 pub fn objects_exist(threadrows: ThreadRows, threads: u8, mutexes: u8, conditions: u8) -> bool
     ensures { result ≡ objects_exist_in threadrows threads mutexes conditions }
 {
-    let mut t = threads;
-    while 0 < t {
-        t -= 1;
-        let i = (t % THREADS) as usize;
-        let row = threadrows[i];
-        if !object_exists(mutexes, conditions, row) {
-            return false;
-        }
-    }
-    true
+    (0..threads).all(|t| object_exists(mutexes, conditions, threadrows[(t % THREADS) as usize]))
 }
 
 // The object of a thread that waits for none is 255.
 fn object_fits(state: u8, object: u8) -> bool
     ensures { result ≡ object_fits state object }
 {
-    if FOR_MUTEX <= state {
-        return true;
-    }
-    object == NONE
+    FOR_MUTEX <= state || object == NONE
 }
 
 // The clause on objects.
 pub fn object_codes_sound(threadrows: ThreadRows, threads: u8) -> bool
     ensures { result ≡ object_codes_in threadrows threads }
 {
-    let mut t = threads;
-    while 0 < t {
-        t -= 1;
-        let i = (t % THREADS) as usize;
-        let row = threadrows[i];
-        if !object_fits(row.state, row.object) {
-            return false;
-        }
-    }
-    true
+    (0..threads).all(|t| {
+        let row = threadrows[(t % THREADS) as usize];
+        object_fits(row.state, row.object)
+    })
 }
 
 // Whether a thread of another row and priority is in the queue of a thread of this row and priority.
@@ -181,16 +139,6 @@ fn beside(row: ThreadRow, mine: u8, other: ThreadRow, its: u8) -> bool
     ensures { result ≡ beside_in row mine other its }
 {
     both(stands(other, row.state, row.object), its == mine)
-}
-
-// 1 for a test that holds, else 0.
-fn one_if(test: bool) -> u8
-    ensures { result ≡ cond test 1 0 }
-{
-    if test {
-        return 1;
-    }
-    0
 }
 
 // As many of a thread's queue have a smaller place as its place says, and no other has the same.
@@ -205,14 +153,12 @@ fn counted(
 {
     let mut smaller: u8 = 0;
     let mut equal: u8 = 0;
-    let mut u = threads;
-    while 0 < u {
-        u -= 1;
+    for u in 0..threads {
         let i = (u % THREADS) as usize;
         let other = threadrows[i];
         let queued = beside(row, mine, other, priorities[i]);
-        smaller += one_if(both(queued, other.place < row.place));
-        equal += one_if(both(queued, other.place == row.place));
+        smaller += u8::from(both(queued, other.place < row.place));
+        equal += u8::from(both(queued, other.place == row.place));
     }
     both(smaller == row.place, equal == 1)
 }
@@ -237,14 +183,9 @@ fn place_fits(
 pub fn places_sound(threadrows: ThreadRows, threads: u8, priorities: Priorities) -> bool
     ensures { result ≡ places_in threadrows threads priorities }
 {
-    let mut t = threads;
-    while 0 < t {
-        t -= 1;
+    (0..threads).all(|t| {
         let i = (t % THREADS) as usize;
         let row = threadrows[i];
-        if !place_fits(threadrows, threads, priorities, row, priorities[i]) {
-            return false;
-        }
-    }
-    true
+        place_fits(threadrows, threads, priorities, row, priorities[i])
+    })
 }

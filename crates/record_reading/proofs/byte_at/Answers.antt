@@ -1,7 +1,5 @@
--- `byte_at` meets its contract: the place is within the bytes or not. Assumes nothing.
-use mathlib.Core.Path.{sym}
-use lib.ListN.{get_or-eq_default}
+-- `byte_at` meets its contract: as `load` does. Assumes nothing.
 use Rattle.record_reading.proofs.byte_at.Goals as goal
 
 pub returns : goal.returns
-returns c = sym (get_or-eq_default c.args.bytes.now 0 {n = c.args.at} c.if-at-bytes.false)
+returns c = c.load.ensures

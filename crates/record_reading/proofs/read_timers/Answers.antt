@@ -1,16 +1,8 @@
--- `read_timers` fills the table. The invariant: the rows below the id are made. The measure is what is left. Assumes nothing.
-use mathlib.Core.Path.{ap, ◌∙◌}
-use native.Mathlib.Omega.{arith}
-use lib.ListN.{set}
-use Rattle.laws.proofs.Filling.{fill_none, fill_next, fill_all}
+-- `read_timers` meets its contract: row by row. Assumes nothing.
+use Rattle.std.proofs.Common.{rules}
+use Rattle.page.proofs.Making.{made}
+use Rattle.page.specs.Says.{no_timer_row}
 use Rattle.record_reading.proofs.read_timers.Goals as goal
 
-pub loop-t-init : goal.loop-t-init
-loop-t-init c = (omega arith, fill_none 32 _ _)
-
-pub loop-t-preserved : goal.loop-t-preserved
-loop-t-preserved c =
-    (omega arith, ap (λ l. set l c.loop-t.t c.timer_or-row.result) c.loop-t.invariant.1 ∙ fill_next 32 _ _ c.loop-t.t c.timer_or-row.result c.loop-t-test.true c.timer_or-row.ensures)
-
 pub returns : goal.returns
-returns c = c.loop-t.invariant.1 ∙ fill_all 32 _ _ _ c.loop-t-test.false
+returns c = made 32 _ (λ i row f l call. search rules) c.from_fn.ensures.items no_timer_row

@@ -5,4 +5,4 @@ use Rattle.record_writing.proofs.put_four.Goals as goal
 pub returns : goal.returns
 returns c =
     let a = c.args in
-    four a.buffer.now a.at a.a a.b a.c a.d c.put.ensures c.put-2.ensures c.put-3.ensures c.put-4.ensures
+    four a.buffer.now a.at a.a a.b a.c a.d c.store.ensures c.store-2.ensures c.store-3.ensures c.store-4.ensures

@@ -1,4 +1,5 @@
--- `rest_sound` meets its contract: by its test, and each call by its own. Assumes nothing.
+-- `rest_sound` meets its contract: each test is asked where those before it hold. Assumes nothing.
+use Rattle.std.proofs.Common.{rules}
 use Rattle.sound_page.specs.WholePage.{rest_in}
 use Rattle.sound_page.proofs.rest_sound.Goals as goal
 
@@ -6,15 +7,10 @@ pub returns-then-started : goal.returns-then-started
 unfolding rest_in
 returns-then-started c = rw c.if-started.true
 
-pub returns : goal.returns
+pub returns-then-no_timer_runs : goal.returns-then-no_timer_runs
 unfolding rest_in
-returns c =
-    rw (
-      c.both-3.ensures,
-      c.both-2.ensures,
-      c.both.ensures,
-      c.no_timer_runs-still.ensures,
-      c.nothing_owned-free.ensures,
-      c.all_ready-ready.ensures,
-      c.if-started.false,
-    )
+returns-then-no_timer_runs c = search rules
+
+pub returns-else-no_timer_runs : goal.returns-else-no_timer_runs
+unfolding rest_in
+returns-else-no_timer_runs c = search rules

