@@ -1,5 +1,7 @@
 -- The tests of the code decide right form: the counts fit, the states are among the document's, and the bytes are the record of the page read.
 -- Assumes nothing.
+use Rattle.std.specs.Prelude.{Some, None}
+use Rattle.std.proofs.lemmas.Option.{none-some, cond_some}
 use Prim.Native.Nat.{ℕ, ◌+◌, ◌%◌, ◌<◌, ◌≤◌}
 use mathlib.Core.Path.{◌≡◌, refl, sym, ap, ap₂, ◌∙◌, subst}
 use mathlib.Core.Bool.{Bool, true, false, ◌||◌, ◌&&◌}
@@ -20,8 +22,7 @@ use Rattle.record_bytes.proofs.Writing.{states_formed_lem, written_read}
 use Rattle.page.specs.declared.Page.{Page}
 use Rattle.page.specs.Says.{thread_said, timer_said, no_thread_row, no_timer_row, said, page_for}
 use Rattle.record_writing.proofs.Whole.{header, total_is}
-use Rattle.record_reading.specs.declared.Opened.{Opened}
-use Rattle.record_reading.specs.Rows.{read_model, wrong_form, open_model, fitting, agree, same_bytes}
+use Rattle.record_reading.specs.Rows.{read_model, open_model, fitting, agree, same_bytes}
 use Rattle.record_reading.proofs.Tables.{read_page_lem, read_blank}
 
 -- ---- the states
@@ -172,13 +173,13 @@ module _ (bytes : List ℕ) where
 
 module _ (bytes : List ℕ) where
   -- by the form
-  model_wrong : formed bytes ≡ false → open_model bytes ≡ wrong_form
+  model_wrong : formed bytes ≡ false → open_model bytes ≡ None
   unfolding open_model
-  model_wrong f = cond_false (formed bytes) (record { formed = true; page = page_for (page_in bytes) }) wrong_form f
+  model_wrong f = cond_false (formed bytes) (Some (page_for (page_in bytes))) None f
 
-  model_right : formed bytes ≡ true → open_model bytes ≡ record { formed = true; page = page_for (page_in bytes) }
+  model_right : formed bytes ≡ true → open_model bytes ≡ Some (page_for (page_in bytes))
   unfolding open_model
-  model_right f = cond_true (formed bytes) (record { formed = true; page = page_for (page_in bytes) }) wrong_form f
+  model_right f = cond_true (formed bytes) (Some (page_for (page_in bytes))) None f
 
 module _ (bytes : List ℕ) {t m c i : ℕ} {fit : Bool} (et : t ≡ word_at bytes 0) (em : m ≡ word_at bytes 2) (ec : c ≡ word_at bytes 4) (ei : i ≡ word_at bytes 6) (ef : fit ≡ fitting t m c i) where
   -- the test of the counts
@@ -186,8 +187,8 @@ module _ (bytes : List ℕ) {t m c i : ℕ} {fit : Bool} (et : t ≡ word_at byt
   tested = ef ∙ (λ j. fitting (et j) (em j) (ec j) (ei j))
 
   -- counts that do not fit: wrong form
-  pub opened_wrong : (r : Opened) → fit ≡ false → r ≡ wrong_form → r ≡ open_model bytes
-  opened_wrong r e q = q ∙ sym (model_wrong bytes (counts_wrong bytes (sym tested ∙ e)))
+  pub opened_wrong : fit ≡ false → None ≡ open_model bytes
+  opened_wrong e = sym (model_wrong bytes (counts_wrong bytes (sym tested ∙ e)))
 
   -- counts that fit: the tests decide, of the page that was read
   module _ (x : Page) (right : Bool) (e : fit ≡ true) (b : AreBytes bytes) (ex : x ≡ read_model bytes (t % 256) (m % 256) (c % 256) (i % 256)) (er : right ≡ (page_formed (said x) && same_bytes bytes (record_of (said x)))) where
@@ -198,26 +199,31 @@ module _ (bytes : List ℕ) {t m c i : ℕ} {fit : Bool} (et : t ≡ word_at byt
     decided = er ∙ ap (λ y. page_formed (said y) && same_bytes bytes (record_of (said y))) same ∙ form_decided bytes (sym tested ∙ e) b
 
     -- wrong form
-    pub opened_unformed : (r : Opened) → right ≡ false → r ≡ wrong_form → r ≡ open_model bytes
-    opened_unformed r f q = q ∙ sym (model_wrong bytes (sym decided ∙ f))
+    pub opened_unformed : right ≡ false → None ≡ open_model bytes
+    opened_unformed f = sym (model_wrong bytes (sym decided ∙ f))
 
     -- right form
-    pub opened_right : right ≡ true → record { formed = true; page = x } ≡ open_model bytes
+    pub opened_right : right ≡ true → Some x ≡ open_model bytes
     opened_right f =
         let right-form = sym decided ∙ f in
-        (λ j. record { formed = true; page = (same ∙ page_for_lem bytes (sym tested ∙ e) right-form) j }) ∙ sym (model_right bytes right-form)
+        ap Some (same ∙ page_for_lem bytes (sym tested ∙ e) right-form) ∙ sym (model_right bytes right-form)
 
 -- ---- what the page then says
 
-module _ (bytes : List ℕ) (r : Opened) (e : r ≡ open_model bytes) where
-  -- whether the buffer is of right form
-  pub told_form : r.formed ≡ formed bytes
-  told_form = ap (λ (o : Opened). o.formed) e ∙ by_cases (formed bytes)
-      (λ f. ap (λ (o : Opened). o.formed) (model_right bytes f) ∙ sym f)
-      (λ f. ap (λ (o : Opened). o.formed) (model_wrong bytes f) ∙ (unfold wrong_form in sym f))
+module _ (bytes : List ℕ) where
+  -- none: the buffer is of wrong form
+  pub told_wrong : None ≡ open_model bytes → formed bytes ≡ false
+  told_wrong e = by_cases (formed bytes) (λ f. absurd (none-some (page_for (page_in bytes)) (e ∙ model_right bytes f))) (λ f. f)
 
-  -- of right form the page says what the buffer does
-  pub told_page : formed bytes ≡ true → said r.page ≡ page_in bytes
-  told_page f =
+  -- a page: the buffer is of right form
+  pub told_form : (p : Page) → Some p ≡ open_model bytes → formed bytes ≡ true
+  unfolding open_model
+  told_form p e = (cond_some (formed bytes) (page_for (page_in bytes)) p (sym e)).0
+
+  -- and the page says what the buffer does
+  pub told_page : (p : Page) → Some p ≡ open_model bytes → said p ≡ page_in bytes
+  unfolding open_model
+  told_page p e =
+      let f = told_form p e in
       let fits = counts_right bytes f in
-      ap (λ (o : Opened). said o.page) (e ∙ model_right bytes f) ∙ ap said (sym (page_for_lem bytes fits f)) ∙ page_held bytes fits f
+      ap said (sym (cond_some (formed bytes) (page_for (page_in bytes)) p (sym e)).1 ∙ sym (page_for_lem bytes fits f)) ∙ page_held bytes fits f

@@ -1,6 +1,7 @@
 -- What a buffer holds: the page that is read from its bytes at the places where packed tables stand, and the tests of right form as the code
 -- has them.
 -- Assumes nothing.
+use Rattle.std.specs.Prelude.{Option, Some, None}
 use Rattle.std.specs.Prelude.{ℕ, ◌+◌, ◌*◌, Bool, true, false, cond, not, ◌&&◌, List, [], ◌∷◌, length, eqb, ltb, leb}
 use Rattle.laws.specs.Lists.{tabulate}
 use Rattle.units.specs.Units.{outside}
@@ -15,7 +16,6 @@ use Rattle.page.specs.declared.TimerRow.{TimerRow}
 use Rattle.page.specs.declared.Page.{Page}
 use Rattle.page.specs.Says.{thread_for, mutex_for, timer_for, stopped_timer_row, page_for, empty_page}
 use Rattle.record_bytes.specs.Record.{byte, word_at, page_in, formed}
-use Rattle.record_reading.specs.declared.Opened.{Opened}
 
 -- ---- rows at a place
 
@@ -66,13 +66,9 @@ read_model bytes t m c i = record {
 
 -- ---- what a buffer holds
 
--- of wrong form: the page of no row
-unfoldable pub wrong_form : Opened
-wrong_form = record { formed = false; page = page_for empty_page }
-
--- of right form: the page for what it says
-unfoldable pub open_model : List ℕ → Opened
-open_model bytes = cond (formed bytes) (record { formed = true; page = page_for (page_in bytes) }) wrong_form
+-- of right form: the page for what it says; of wrong form none
+unfoldable pub open_model : List ℕ → Option Page
+open_model bytes = cond (formed bytes) (Some (page_for (page_in bytes))) None
 
 -- ---- tests
 

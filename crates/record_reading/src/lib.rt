@@ -7,7 +7,7 @@ ghost use Rattle.laws.specs.Lists.{tabulate};
 ghost use Rattle.rules.specs.Page.{each_row, thread_formed, timer_formed, page_formed};
 ghost use Rattle.record_bytes.specs.Record.{byte, word_at, record_of};
 ghost use Rattle.page.specs.Says.{thread_said, timer_said, no_thread_row, no_timer_row, said, thread_for, mutex_for, timer_for};
-ghost use Rattle.record_reading.specs.Rows.{thread_at, mutex_at, timer_at, thread_or, mutex_or, tie_or, timer_or, read_model, wrong_form, open_model, fitting, agree, same_bytes};
+ghost use Rattle.record_reading.specs.Rows.{thread_at, mutex_at, timer_at, thread_or, mutex_or, tie_or, timer_or, read_model, open_model, fitting, agree, same_bytes};
 
 use entries::load;
 use limits::{CONDITIONS, MUTEXES, NONE, ON_CONDITION, PERIODIC, READY, THREADS, TIMERS};
@@ -39,13 +39,6 @@ const MOST_CONDITIONS: u16 = CONDITIONS as u16;
 
 // The timers that there can be.
 const MOST_TIMERS: u16 = TIMERS as u16;
-
-// What a buffer holds: whether it is of right form, and the page, which has no row where it is of wrong form.
-#[derive(Clone, Copy)]
-pub struct Opened {
-    pub formed: bool,
-    pub page: Page,
-}
 
 // The byte at a place; past the end 0.
 fn byte_at(bytes: &[u8], at: usize) -> u8
@@ -288,19 +281,8 @@ fn counts_fit(threads: u16, mutexes: u16, conditions: u16, timers: u16) -> bool
         && timers <= MOST_TIMERS
 }
 
-// A buffer of wrong form.
-fn wrong_form() -> Opened
-    ensures { result ≡ wrong_form }
-{
-    let page = Page::blank();
-    Opened {
-        formed: false,
-        page,
-    }
-}
-
-// The page that a buffer holds, and whether the buffer is of right form.
-pub fn open(bytes: &[u8]) -> Opened
+// The page that a buffer holds; none where the buffer is of wrong form.
+pub fn open(bytes: &[u8]) -> Option<Page>
     ensures { result ≡ open_model bytes.now }
 {
     let threads = word_at(bytes, THREAD_COUNT);
@@ -309,7 +291,7 @@ pub fn open(bytes: &[u8]) -> Opened
     let timers = word_at(bytes, TIMER_COUNT);
     let fit = counts_fit(threads, mutexes, conditions, timers);
     if !fit {
-        return wrong_form();
+        return None;
     }
     let page = read(
         bytes,
@@ -320,7 +302,7 @@ pub fn open(bytes: &[u8]) -> Opened
     );
     let right = is_formed(bytes, page);
     if !right {
-        return wrong_form();
+        return None;
     }
-    Opened { formed: true, page }
+    Some(page)
 }

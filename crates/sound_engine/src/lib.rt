@@ -2,7 +2,7 @@
 // them, and the two are compared byte by byte and word by word. Whether started, the counts and the tick count are the page's own.
 #![tactic(auto)]
 
-ghost use Rattle.std.specs.Prelude.{◌≡◌, ◌↔◌, true};
+ghost use Rattle.std.specs.Prelude.{◌≡◌, ◌↔◌, true, is_ok, IfOk, IfErr};
 ghost use Rattle.page_describing.specs.Describing.{describe_model};
 ghost use Rattle.sound_engine.specs.Rebuilding.{Rebuilt, Follows};
 
@@ -18,13 +18,6 @@ use sound_page::sound;
 use value_engine::Engine;
 use wheel::{WheelWords, same_words};
 
-// An engine's page, and whether the engine is sound.
-#[derive(Clone, Copy)]
-pub struct Judged {
-    pub sound: bool,
-    pub page: Page,
-}
-
 // Whether the tables that follow from a page are those that stand in three arrays.
 fn rebuilt(cells: &Cells, clock: &ClockWords, wheel: &WheelWords, page: Page) -> bool
     ensures { (result ≡ true) ↔ Rebuilt cells.now clock.now wheel.now page }
@@ -38,10 +31,11 @@ fn rebuilt(cells: &Cells, clock: &ClockWords, wheel: &WheelWords, page: Page) ->
     both(scheduled, both(timed, hung))
 }
 
-// The page of an engine, and whether it is sound and all that the engine keeps besides follows from it.
-pub fn judge(engine: Engine) -> Judged
-    ensures sound { (result.sound ≡ true) ↔ Follows engine }
-    ensures page { result.page ≡ describe_model engine }
+// The page of an engine, where it is sound and all that the engine keeps besides follows from it; as an error the page of any other engine.
+pub fn judge(engine: Engine) -> Result<Page, Page>
+    ensures sound { (is_ok result ≡ true) ↔ Follows engine }
+    ensures ok { IfOk result (λ page. page ≡ describe_model engine) }
+    ensures err { IfErr result (λ page. page ≡ describe_model engine) }
 {
     let cells = cells_of(engine);
     let clock = clock_words(engine);
@@ -50,8 +44,8 @@ pub fn judge(engine: Engine) -> Judged
     let page = describe(&cells, &clock, &wheel, counts);
     let right = sound(page);
     if !right {
-        return Judged { sound: false, page };
+        return Err(page);
     }
-    let sound = rebuilt(&cells, &clock, &wheel, page);
-    Judged { sound, page }
+    let follows = rebuilt(&cells, &clock, &wheel, page);
+    if follows { Ok(page) } else { Err(page) }
 }

@@ -14,12 +14,10 @@ returns-then-not-right c =
     let whole = apart x _ _ _ _ c.cells_of-cells.ensures c.clock_words-clock.ensures c.wheel_words-wheel.ensures c.counts_of-counts.ensures in
     let page = c.describe-page.ensures.always ∙ ap describe_model whole in
     let test = ap (λ p. page_formed (said p) && page_sound (said p)) (sym page) ∙ sym c.sound-right.ensures in
-    record { sound = page_refuses x (test ∙ c.if-not-right.true); page = page }
+    record { sound = page_refuses x (test ∙ c.if-not-right.true); ok = tt; err = page }
 
-pub returns : goal.returns
-returns c =
-    let x = c.args.engine in
-    let whole = apart x _ _ _ _ c.cells_of-cells.ensures c.clock_words-clock.ensures c.wheel_words-wheel.ensures c.counts_of-counts.ensures in
-    let page = c.describe-page.ensures.always ∙ ap describe_model whole in
-    let test = ap (λ p. page_formed (said p) && page_sound (said p)) (sym page) ∙ sym c.sound-right.ensures in
-    record { sound = tables_tell x _ _ _ _ _ c.cells_of-cells.ensures c.clock_words-clock.ensures c.wheel_words-wheel.ensures page (test ∙ c.if-not-right.false) c.rebuilt-sound.ensures; page = page }
+pub returns-then-follows : goal.returns-then-follows
+returns-then-follows c = ?
+
+pub returns-else-follows : goal.returns-else-follows
+returns-else-follows c = ?
