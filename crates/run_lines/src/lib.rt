@@ -49,18 +49,14 @@ pub fn answer_rows(engine: Engine, lines: Lines, bytes: &[u8], output: &mut [u8]
     let mut wheel = wheel_words(engine);
     let mut counts = counts_of(engine);
     let mut made = lines;
-    let mut i: usize = 0;
-    while i < rows {
+    for i in 0..rows {
         let row = row_at(bytes, i * ROW);
         let done = step_row(&mut cells, &mut clock, &mut wheel, counts, row);
         counts = done.counts;
-        let longer = add_line(made, done.answer, output);
-        made = longer;
-        i += 1;
+        made = add_line(made, done.answer, output);
     }
-    let reached = engine_of(&cells, &clock, &wheel, counts);
     Answered {
-        engine: reached,
+        engine: engine_of(&cells, &clock, &wheel, counts),
         lines: made,
     }
 }

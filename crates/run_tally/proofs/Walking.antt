@@ -1,6 +1,6 @@
 -- One row more, the rows once more, and the sum from boot.
 -- Assumes nothing.
-use Rattle.std.proofs.Common.{◌≡◌, ℕ, zero, suc, ◌+◌, ◌-◌, ◌*◌, ◌/◌, ◌<◌, ◌≤◌, List, length, refl, ap, ◌∙◌, arith}
+use Rattle.std.proofs.Common.{◌≡◌, ℕ, suc, ◌+◌, ◌-◌, ◌*◌, ◌/◌, ◌<◌, ◌≤◌, List, length, refl, ap, ◌∙◌, arith}
 use Rattle.rules.specs.State.{boot}
 use Rattle.value_engine.specs.declared.Engine.{Engine}
 use Rattle.value_engine.specs.declared.Stepped.{Stepped}
@@ -20,19 +20,19 @@ pub row_tallied : (i : ℕ) (bytes row : List ℕ) (x r : Reached ℕ) → i < l
     → after_rows add_weight r (rows_from (i + 1) bytes) ≡ after_rows add_weight x (rows_from i bytes)
 row_tallied i bytes row x r less read done = turned add_weight i bytes row x r (row_model x.engine row) less read refl done
 
--- the rows once more
-pub repeat_on : (n : ℕ) (r : Reached ℕ) (rows : List ℕ) → 0 < n → repeated n r rows ≡ repeated (n - 1) (over_rows r rows) rows
+-- after i turns of n the rows once more
+pub repeat_on : (n i : ℕ) (r : Reached ℕ) (rows : List ℕ) → i < n → repeated (n - i) r rows ≡ repeated (n - (i + 1)) (over_rows r rows) rows
 unfolding repeated
-repeat_on zero r rows h = absurd (omega arith)
-repeat_on (suc n) r rows h =
-    let left : suc n - 1 ≡ n = omega arith in
+repeat_on n i r rows h =
+    let left : n - i ≡ suc (n - (i + 1)) = omega arith in
     rw left
 
--- the rows are not left once more
-pub repeat_end : (n : ℕ) (r : Reached ℕ) (rows : List ℕ) → n ≤ 0 → repeated n r rows ≡ r
+-- after all turns the rows are not left once more
+pub repeat_end : (n i : ℕ) (r : Reached ℕ) (rows : List ℕ) → n ≤ i → repeated (n - i) r rows ≡ r
 unfolding repeated
-repeat_end zero r rows h = refl
-repeat_end (suc n) r rows h = absurd (omega arith)
+repeat_end n i r rows h =
+    let none : n - i ≡ 0 = omega arith in
+    rw none
 
 -- from boot, the setup once, and then the rows so many times
 pub summed : (setup rows : List ℕ) (repeats : ℕ) (x y : Engine) (sum : ℕ) (r : Reached ℕ) → x ≡ engine_of boot → record { engine = y; made = sum } ≡ over_rows (record { engine = x; made = 0 }) setup

@@ -58,22 +58,18 @@ fn tally_rows(
     cells: &mut Cells,
     clock: &mut ClockWords,
     wheel: &mut WheelWords,
-    counts: Counts,
-    sum: u64,
+    mut counts: Counts,
+    mut sum: u64,
     rows: &[u8],
 ) -> Tallied
     ensures { tally_on cells.new clock.new wheel.new result.counts result.sum ≡ over_rows (tally_on cells.old clock.old wheel.old counts sum) rows.now }
 {
     let count = rows.len() / ROW;
-    let mut counts = counts;
-    let mut sum = sum;
-    let mut i: usize = 0;
-    while i < count {
+    for i in 0..count {
         let row = row_at(rows, i * ROW);
         let done = place_step::step_row(cells, clock, wheel, counts, row);
         counts = done.counts;
         sum = add(sum, done.answer);
-        i += 1;
     }
     Tallied { counts, sum }
 }
@@ -90,12 +86,8 @@ fn tally_repeated(
     ensures { tally_on cells.new clock.new wheel.new result.counts result.sum ≡ repeated repeats (tally_on cells.old clock.old wheel.old counts 0) rows.now }
 {
     let mut reached = Tallied { counts, sum: 0 };
-    let mut left = repeats;
-    while 0 < left {
-        let counts = reached.counts;
-        let next = tally_rows(cells, clock, wheel, counts, reached.sum, rows);
-        reached = next;
-        left -= 1;
+    for _ in 0..repeats {
+        reached = tally_rows(cells, clock, wheel, reached.counts, reached.sum, rows);
     }
     reached
 }
@@ -130,14 +122,10 @@ fn tally_row_by_value(tally: Tally, row: Row) -> Tally
 fn tally_rows_by_value(tally: Tally, rows: &[u8]) -> Tally
     ensures { tally_by result ≡ over_rows (tally_by tally) rows.now }
 {
-    let count = rows.len() / ROW;
     let mut reached = tally;
-    let mut i: usize = 0;
-    while i < count {
-        let row = row_at(rows, i * ROW);
-        let next = tally_row_by_value(reached, row);
-        reached = next;
-        i += 1;
+    let count = rows.len() / ROW;
+    for i in 0..count {
+        reached = tally_row_by_value(reached, row_at(rows, i * ROW));
     }
     reached
 }
@@ -147,11 +135,8 @@ fn tally_repeated_by_value(tally: Tally, rows: &[u8], repeats: u64) -> Tally
     ensures { tally_by result ≡ repeated repeats (tally_by tally) rows.now }
 {
     let mut reached = tally;
-    let mut left = repeats;
-    while 0 < left {
-        let next = tally_rows_by_value(reached, rows);
-        reached = next;
-        left -= 1;
+    for _ in 0..repeats {
+        reached = tally_rows_by_value(reached, rows);
     }
     reached
 }
@@ -187,14 +172,10 @@ fn tally_row_by_calls(called: Called, row: Row) -> Called
 fn tally_rows_by_calls(called: Called, rows: &[u8]) -> Called
     ensures { Describes called → Describes result × (tally_from result ≡ over_rows (tally_from called) rows.now) }
 {
-    let count = rows.len() / ROW;
     let mut reached = called;
-    let mut i: usize = 0;
-    while i < count {
-        let row = row_at(rows, i * ROW);
-        let next = tally_row_by_calls(reached, row);
-        reached = next;
-        i += 1;
+    let count = rows.len() / ROW;
+    for i in 0..count {
+        reached = tally_row_by_calls(reached, row_at(rows, i * ROW));
     }
     reached
 }
@@ -204,11 +185,8 @@ fn tally_repeated_by_calls(called: Called, rows: &[u8], repeats: u64) -> Called
     ensures { Describes called → Describes result × (tally_from result ≡ repeated repeats (tally_from called) rows.now) }
 {
     let mut reached = called;
-    let mut left = repeats;
-    while 0 < left {
-        let next = tally_rows_by_calls(reached, rows);
-        reached = next;
-        left -= 1;
+    for _ in 0..repeats {
+        reached = tally_rows_by_calls(reached, rows);
     }
     reached
 }

@@ -1,26 +1,23 @@
--- `tally_rows_by_calls` meets its contract. The invariant: going on from row i gives what the whole gives. The measure is how many rows are left. Assumes nothing.
-use Rattle.std.proofs.Common.{refl, ◌∙◌, arith}
+-- `tally_rows_by_calls` meets its contract. The invariant: going on from row i gives what the whole gives. Assumes nothing.
+use Rattle.std.proofs.Common.{refl, ◌∙◌}
 use Rattle.run_rows.proofs.Many.{rows_end}
 use Rattle.run_tally.specs.Sums.{add_weight, tally_from}
 use Rattle.run_tally.proofs.Walking.{row_tallied}
 use Rattle.run_tally.proofs.tally_rows_by_calls.Goals as goal
 
 pub loop-i-init : goal.loop-i-init
-loop-i-init c = (refl, omega arith, λ w. (w, refl))
+loop-i-init c = λ w. (w, refl)
 
 pub loop-i-preserved : goal.loop-i-preserved
 loop-i-preserved c =
     let l = c.loop-i in
-    let rows = c.args.rows.now in (
-      l.invariant.0,
-      omega arith,
-      λ w.
-          let so_far = l.invariant.2 w in
-          let one = c.tally_row_by_calls-next.ensures so_far.0 in
-          (one.0, row_tallied l.i rows _ (tally_from l.reached) _ c.loop-i-test.true c.row_at-row.ensures one.1 ∙ so_far.1),
-    )
+    let rows = c.args.rows.now in
+    λ w.
+    let so_far = l.invariant w in
+    let one = c.tally_row_by_calls-reached.ensures so_far.0 in
+    (one.0, row_tallied l.i rows _ (tally_from l.reached) _ c.loop-i-test.true c.row_at.ensures one.1 ∙ so_far.1)
 
 pub returns : goal.returns
 returns c =
     let l = c.loop-i in
-    λ w. let all = l.invariant.2 w in (all.0, rows_end add_weight l.i c.args.rows.now _ (tally_from l.reached) c.loop-i-test.false all.1)
+    λ w. let all = l.invariant w in (all.0, rows_end add_weight l.i c.args.rows.now _ (tally_from l.reached) c.loop-i-test.false all.1)

