@@ -7,6 +7,9 @@ use Rattle.place_tables.specs.Cells.{scheduler_in}
 use Rattle.place_effects.proofs.Rows.{sixteen, own_row}
 use Rattle.place_effects.proofs.owned_by.Goals as goal
 
+pub loop-i-init : goal.loop-i-init
+loop-i-init c = (omega arith, omega arith)
+
 pub overflow_add-owned : goal.overflow_add-owned
 overflow_add-owned c =
     let one = rw (← c.owned_one-owned.ensures) at (owned_one_lem c.mutex_at-row.result c.args.t) in
