@@ -1,13 +1,9 @@
 -- `ahead_of` counts those ahead. The invariant: the count and those ahead on the rest of the walk make the whole. Assumes nothing.
 use mathlib.Core.Path.{◌≡◌, sym, ◌∙◌}
 use native.Mathlib.Omega.{arith}
-use native.Mathlib.Nat.{zero-add}
 use Rattle.queue.specs.Linking.{read_model}
 use Rattle.page_describing.proofs.Ahead.{count_ends, count_full, count_met, count_more}
 use Rattle.page_describing.proofs.ahead_of.Goals as goal
-
-pub loop-count-init : goal.loop-count-init
-loop-count-init c = (omega arith, zero-add _)
 
 pub returns-then-here-ge-THREADS : goal.returns-then-here-ge-THREADS
 unfolding read_model

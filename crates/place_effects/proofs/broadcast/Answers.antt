@@ -1,15 +1,12 @@
 -- `broadcast` is its definition. The invariant: going on from here gives what the whole gives. Assumes nothing.
 use Prim.Native.Nat.{◌+◌}
-use mathlib.Core.Path.{◌≡◌, refl, sym, ap, ◌∙◌}
+use mathlib.Core.Path.{◌≡◌, sym, ap, ◌∙◌}
 use native.Mathlib.Omega.{arith}
 use Rattle.value_effects.specs.declared.Signalled.{Signalled}
 use Rattle.value_effects.proofs.Broadcasting.{on_from, broadcast_on, broadcast_none, broadcast_all}
 use Rattle.place_tables.specs.Cells.{scheduler_in}
 use Rattle.place_effects.proofs.Calls.{signal_quiet}
 use Rattle.place_effects.proofs.broadcast.Goals as goal
-
-pub loop-left-init : goal.loop-left-init
-loop-left-init c = refl
 
 pub returns-then-one-eq0 : goal.returns-then-one-eq0
 returns-then-one-eq0 c =

@@ -6,9 +6,6 @@ use Rattle.place_tables.specs.Cells.{scheduler_in}
 use Rattle.place_effects.proofs.Rows.{sixteen, own_row}
 use Rattle.place_effects.proofs.highest_ceiling.Goals as goal
 
-pub loop-i-init : goal.loop-i-init
-loop-i-init c = omega arith
-
 pub loop-i-preserved : goal.loop-i-preserved
 loop-i-preserved c =
     let k = c.args.cells.now in

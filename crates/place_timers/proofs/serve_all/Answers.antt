@@ -1,14 +1,11 @@
 -- `serve_all` is its definition. The invariant: going on from here gives what the whole gives. Assumes nothing.
-use mathlib.Core.Path.{◌≡◌, refl, sym, ap, ◌∙◌}
+use mathlib.Core.Path.{◌≡◌, sym, ap, ◌∙◌}
 use native.Mathlib.Omega.{arith}
 use Rattle.wheel.specs.Promise.{ids_of}
 use Rattle.value_engine.proofs.Serving.{serve_none, serve_full}
 use Rattle.place_timers.specs.Arrays.{effect_on}
 use Rattle.place_timers.proofs.Serving.{goes_on}
 use Rattle.place_timers.proofs.serve_all.Goals as goal
-
-pub loop-given-init : goal.loop-given-init
-loop-given-init c = λ counts. refl
 
 pub returns-then-id-ge-TIMERS : goal.returns-then-id-ge-TIMERS
 returns-then-id-ge-TIMERS c = λ counts.
