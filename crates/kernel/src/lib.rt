@@ -42,9 +42,7 @@ impl Kernel {
     pub fn is_sound(self) -> bool
         ensures { (result ≡ true) ↔ SoundKernel self }
     {
-        let engine = self.engine;
-        let judged = judge(engine);
-        judged.sound
+        judge(self.engine).is_ok()
     }
 
     // A refusal of a kernel that is not sound: given and running are 255, and nothing changes.

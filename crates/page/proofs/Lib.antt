@@ -1,3 +1,2 @@
 pub mod Says
 pub mod Ranges
-pub mod Making

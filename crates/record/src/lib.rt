@@ -46,11 +46,9 @@ fn refused(verdict: Verdict) -> Loaded
 pub fn load(bytes: &[u8]) -> Loaded
     ensures { result ≡ loaded_of (load bytes.now) }
 {
-    let opened = open(bytes);
-    if !opened.formed {
+    let Some(page) = open(bytes) else {
         return refused(Verdict::WrongRecord);
-    }
-    let page = opened.page;
+    };
     let right = sound(page);
     if !right {
         return refused(Verdict::NotSound);
@@ -64,15 +62,12 @@ pub fn load(bytes: &[u8]) -> Loaded
 pub fn save(kernel: Kernel, buffer: &mut [u8]) -> Saved
     ensures { Saves kernel buffer.old result buffer.new }
 {
-    let engine = kernel.engine;
-    let judged = judge(engine);
-    if !judged.sound {
+    let Ok(page) = judge(kernel.engine) else {
         return Saved {
             answer: number(Verdict::NotSound),
             length: 0,
         };
-    }
-    let page = judged.page;
+    };
     let length = total(page);
     if buffer.len() < length as usize {
         return Saved {

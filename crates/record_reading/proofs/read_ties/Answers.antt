@@ -1,6 +1,6 @@
 -- `read_ties` meets its contract: row by row. Assumes nothing.
 use Rattle.std.proofs.Common.{rules}
-use Rattle.page.proofs.Making.{made}
+use Rattle.laws.proofs.Making.{made}
 use Rattle.record_reading.proofs.read_ties.Goals as goal
 
 pub returns : goal.returns

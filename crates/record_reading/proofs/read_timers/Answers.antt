@@ -1,6 +1,6 @@
 -- `read_timers` meets its contract: row by row. Assumes nothing.
 use Rattle.std.proofs.Common.{rules}
-use Rattle.page.proofs.Making.{made}
+use Rattle.laws.proofs.Making.{made}
 use Rattle.page.specs.Says.{no_timer_row}
 use Rattle.record_reading.proofs.read_timers.Goals as goal
 

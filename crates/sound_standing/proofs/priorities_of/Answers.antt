@@ -1,6 +1,6 @@
 -- `priorities_of` meets its contract: entry by entry. Assumes nothing.
 use Rattle.std.proofs.Common.{rules}
-use Rattle.page.proofs.Making.{made}
+use Rattle.laws.proofs.Making.{made}
 use Rattle.sound_standing.specs.Standing.{priorities_in}
 use Rattle.sound_standing.proofs.priorities_of.Goals as goal
 
