@@ -38,7 +38,8 @@ pub enum Call {
     Tick,
 }
 
-// Why an answer is as it is, in the order of document 01's numbers from 0.
+// Why an answer is as it is, in the order of document 01's numbers from 0. That nothing refuses a call is one of them and no Result is made of them:
+// every answer carries the number.
 #[derive(Clone, Copy)]
 pub enum Verdict {
     Done,

@@ -46,6 +46,8 @@ pub const NONE: u8 = 255;
 // What is given where nothing is.
 pub const NOTHING: u16 = NONE as u16;
 
+// The states are numbers and no enum, since a byte of a kernel or of a record may hold any number, and is then refused.
+
 // The state of a thread that is ready.
 pub const READY: u8 = 1;
 

@@ -10,7 +10,7 @@ use units::Ticks;
 use value_effects::{FREE_MUTEX, Mutex, MutexTable, Ties};
 
 // A thread: its base priority, its state (1 ready, 2 running, 3 mutex, 4 condition variable), the object waited for or 255, and its place in its
-// queue from 0.
+// queue from 0. A record with any other byte there is refused, so the state is no enum.
 #[derive(Clone, Copy)]
 pub struct ThreadRow {
     pub base: u8,
@@ -20,6 +20,7 @@ pub struct ThreadRow {
 }
 
 // A timer: its state (0 stopped, 1 one-shot, 2 periodic), its condition variable or 255, n, which is its length or a periodic one's repeat, and its ticks left.
+// A record with any other byte there is refused, so the state is no enum.
 #[derive(Clone, Copy)]
 pub struct TimerRow {
     pub state: u8,

@@ -40,7 +40,7 @@ fn tie_rows(rows: Ties, n: u8) -> Ties
     array::from_fn(|c| if c < n as usize { rows[c] } else { NONE })
 }
 
-// The row of thread t while it stands in no queue.
+// The row of thread t while it stands in no queue. Both kinds of row are other crates' types, so no From can be written here.
 fn running_row(row: ThreadRow, mutexes: MutexTable, t: u8) -> Thread
     ensures { result ≡ running_row mutexes row t }
 {
@@ -67,7 +67,7 @@ fn thread_rows(rows: ThreadRows, mutexes: MutexTable, n: u8) -> ThreadTable
     })
 }
 
-// The engine's row of a timer.
+// The engine's row of a timer; both are other crates' types, so no From can be written here.
 fn timer_from(row: TimerRow) -> Timer
     ensures { result ≡ timer_from row }
 {

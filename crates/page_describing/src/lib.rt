@@ -69,7 +69,7 @@ fn place_of(cells: &Cells, row: Thread, t: u8) -> u8
     ahead_of(cells, queue, t)
 }
 
-// The page's row of thread t.
+// The page's row of thread t. It takes its place from the queue, so it is no From of the engine's row.
 fn thread_row(cells: &Cells, t: u8) -> ThreadRow
     ensures { result ≡ thread_model (scheduler_in cells.now) t }
 {
@@ -90,7 +90,7 @@ fn thread_rows(cells: &Cells) -> ThreadRows
     array::from_fn(|t| thread_row(cells, t as u8))
 }
 
-// The page's row of timer id; its ticks left are the wheel's.
+// The page's row of timer id; its ticks left are the wheel's, so it is no From of the engine's row.
 fn timer_row(clock: &ClockWords, wheel: &WheelWords, id: u8) -> TimerRow
     ensures { result ≡ timer_model (timer_of (clock_in clock.now) id) (wheel_in wheel.now) id }
 {

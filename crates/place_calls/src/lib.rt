@@ -128,7 +128,7 @@ pub fn signal(cells: &mut Cells, counts: Counts, c: u8) -> Answer
     finish(cells, counts, left, false)
 }
 
-// Call 10.
+// Call 10. It stands beside call 9, since one body for both would take the signal as a closure, in more lines.
 pub fn broadcast(cells: &mut Cells, counts: Counts, c: u8) -> Answer
     ensures { (timing : Timing) → stepped_in cells.new timing counts result ≡ broadcast_model (engine_in cells.old timing counts) c }
 {
@@ -178,7 +178,7 @@ pub fn create_thread(cells: &mut Cells, mut counts: Counts, base: u8) -> Counted
     with_answer(counts, answer)
 }
 
-// Call 3.
+// Call 3. It stands beside call 2, since one body for both would take the count and what is created as closures, in more lines.
 pub fn create_mutex(cells: &mut Cells, mut counts: Counts, ceiling: u8) -> Counted
     ensures { (timing : Timing) → stepped_in cells.new timing result.counts result.answer ≡ create_mutex_model (engine_in cells.old timing counts) ceiling }
 {
@@ -209,7 +209,7 @@ pub fn create_condition(cells: &mut Cells, mut counts: Counts) -> Counted
     with_answer(counts, answer)
 }
 
-// Call 5.
+// Call 5. It stands beside call 4, since one body for both would take the count as a closure, in more lines.
 pub fn create_timer(cells: &mut Cells, mut counts: Counts) -> Counted
     ensures { (timing : Timing) → stepped_in cells.new timing result.counts result.answer ≡ create_timer_model (engine_in cells.old timing counts) }
 {

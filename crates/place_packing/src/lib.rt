@@ -92,6 +92,8 @@ pub fn unpacked(cells: &Cells) -> Scheduler
     }
 }
 
+// Each table is put by a loop of its own: one for all would say what its closure does at each row, in more lines than the loops.
+
 // Other rows of the threads.
 fn put_rows(cells: &mut Cells, rows: ThreadTable)
     ensures { scheduler_in cells.new ≡ with_rows (scheduler_in cells.old) rows }

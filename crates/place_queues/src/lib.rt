@@ -154,7 +154,7 @@ pub fn arrive(cells: &mut Cells, t: u8)
     stand(cells, t, READY, NONE);
 }
 
-// Thread t is ready, at the front of the queue of its priority.
+// Thread t is ready, at the front of the queue of its priority; three lines, as `arrive` has, are no longer than a closure for the join.
 fn arrive_in_front(cells: &mut Cells, t: u8)
     ensures { scheduler_in cells.new ≡ arrived_in_front (scheduler_in cells.old) t }
 {
@@ -210,7 +210,7 @@ pub fn wait_for(cells: &mut Cells, t: u8, m: u8)
     stand(cells, t, FOR_MUTEX, m);
 }
 
-// Thread t waits on condition variable c.
+// Thread t waits on condition variable c; three lines, as `wait_for` has, are no longer than a shared body with its five parameters.
 pub fn wait_on(cells: &mut Cells, t: u8, c: u8)
     ensures { scheduler_in cells.new ≡ wait_on_model (scheduler_in cells.old) t c }
 {

@@ -78,6 +78,7 @@ pub fn fill(
     ensures { MatchResult result (λ held. IsPrefixLen held buffer.new) (λ unread. IsPrefixLen unread.held buffer.new) }
 {
     let mut held: usize = 0;
+    // No index is counted: what comes moves it on.
     while held < buffer.len() {
         match input.read(&mut buffer[held..]) {
             Ok(0) => break,

@@ -17,14 +17,14 @@ use sound_page::sound;
 // A buffer of so many bytes has room for any record.
 pub const ROOM: usize = 1024;
 
-// What a load gives: its answer, and the kernel, which is boot's where the record is refused.
+// What a load gives: its answer, and the kernel, which is boot's where the record is refused; since a refused load gives one too, this is no Result.
 #[derive(Clone, Copy)]
 pub struct Loaded {
     pub answer: u8,
     pub kernel: Kernel,
 }
 
-// What a save gives: its answer, and the length written, 0 where it is refused.
+// What a save gives: its answer, and the length written, 0 where it is refused: document 01's two numbers, and so no Result.
 #[derive(Clone, Copy)]
 pub struct Saved {
     pub answer: u8,

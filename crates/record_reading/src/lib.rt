@@ -106,6 +106,8 @@ fn timer_at(bytes: &[u8], at: u16, further: u16) -> TimerRow
     }
 }
 
+// Each kind of row has a function of its own: one for all would take the reading and the blank row as a closure and a value, in more lines.
+
 // Thread t of a table of n threads at a place; past them a blank row.
 fn thread_or(bytes: &[u8], at: u16, n: u8, t: u8) -> ThreadRow
     ensures { result ≡ thread_or bytes.now at n t }

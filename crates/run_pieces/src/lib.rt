@@ -34,7 +34,8 @@ const OUTPUT: usize = 65536;
 pub type Output = [u8; OUTPUT];
 
 // A run between two pieces: the engine, the number of the last line, whether the heading or the line of a refused start is written, the bytes of a
-// row that is cut, with their count, and the answer to its start, 0 where that is not refused.
+// row that is cut, with their count, and the answer to its start, 0 where that is not refused: the number that its line says. What gives the next run
+// names each field, so that what is not carried on is seen.
 #[derive(Clone, Copy)]
 pub struct Run {
     engine: Engine,

@@ -71,6 +71,7 @@ fn put_number(text: Text, n: u64) -> Text
 {
     let mut made = text;
     let mut rest = n;
+    // No index is counted: a digit is taken off each time.
     while TEN <= rest {
         made = put(made, digit(rest));
         rest /= TEN;
@@ -119,7 +120,7 @@ pub fn refusal(answer: u8) -> Text
     put_bytes(number, b"record refused ")
 }
 
-// The line of a save that is refused: `save refused`, a blank, the answer, and a line feed.
+// The line of a save that is refused: `save refused`, a blank, the answer, and a line feed. Its words alone are not those of `refusal`, three lines long.
 pub fn save_refusal(answer: u8) -> Text
     ensures { result ≡ text_of (save_refusal_bytes answer) }
 {

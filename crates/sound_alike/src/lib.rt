@@ -1,5 +1,4 @@
-// Whether two schedulers, or two clocks, that stand in lent arrays are the same: every byte and every word, none left out, so that many are compared at
-// once. Two wheels are compared by the wheel itself.
+// Whether two schedulers, or two clocks, that stand in lent arrays are the same: every byte and every word. Two wheels are compared by the wheel itself.
 #![tactic(auto)]
 
 ghost use Rattle.std.specs.Prelude.{◌≡◌, ◌↔◌, true};
@@ -13,16 +12,12 @@ use place_tables::Cells;
 pub fn same_cells(one: &Cells, other: &Cells) -> bool
     ensures { (result ≡ true) ↔ (scheduler_in one.now ≡ scheduler_in other.now) }
 {
-    one.iter()
-        .zip(other.iter())
-        .fold(true, |same, (byte, its)| same & (*byte == *its))
+    one == other
 }
 
 // Two clocks are the same: all their words are.
 pub fn same_clocks(one: &ClockWords, other: &ClockWords) -> bool
     ensures { (result ≡ true) ↔ (clock_in one.now ≡ clock_in other.now) }
 {
-    one.iter()
-        .zip(other.iter())
-        .fold(true, |same, (word, its)| same & (*word == *its))
+    one == other
 }

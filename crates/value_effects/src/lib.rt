@@ -148,6 +148,7 @@ impl Scheduler {
     }
 
     // Thread t waits on condition variable c.
+    // It stands beside `wait_for`, since one body for both would take its table as a closure, in more lines.
     pub fn wait_on(mut self, t: u8, c: u8) -> Scheduler
         ensures { result ≡ wait_on_model self t c }
     {

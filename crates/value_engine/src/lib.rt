@@ -31,6 +31,7 @@ use value_tables::{BLANK_THREAD, Threads};
 use wheel::{Due, Wheel};
 
 // A timer's row: its state (0 stopped, 1 one-shot, 2 periodic), its condition variable, 255 for none, and n, which is the repeat of a periodic one.
+// A kernel with any other byte there is refused, so the state is no enum.
 #[derive(Clone, Copy)]
 pub struct Timer {
     pub state: u8,
@@ -224,7 +225,7 @@ impl Engine {
         self.answered(id as u16, false)
     }
 
-    // Call 3.
+    // Call 3. It stands beside call 2, since one body for both would take the count and what is created as closures, in more lines.
     fn create_mutex(mut self, ceiling: u8) -> Stepped
         ensures { result ≡ create_mutex_model self ceiling }
     {
@@ -253,7 +254,7 @@ impl Engine {
         self.answered(id as u16, false)
     }
 
-    // Call 5.
+    // Call 5. It stands beside call 4, since one body for both would take the count as a closure, in more lines.
     fn create_timer(mut self) -> Stepped
         ensures { result ≡ create_timer_model self }
     {
@@ -338,7 +339,7 @@ impl Engine {
         self.answered(signalled.left, false)
     }
 
-    // Call 10.
+    // Call 10. It stands beside call 9, since one body for both would take the signal as a closure, in more lines.
     fn broadcast(mut self, c: u8) -> Stepped
         ensures { result ≡ broadcast_model self c }
     {

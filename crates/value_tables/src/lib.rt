@@ -26,7 +26,7 @@ pub struct Head {
 }
 
 // A thread's row: its base priority, its present priority, where it stands (1 ready, 2 running, 3 mutex, 4 condition variable) and
-// the object waited for, 255 for none.
+// the object waited for, 255 for none. A kernel with any other byte there is refused, so the state is no enum.
 #[derive(Clone, Copy)]
 pub struct Thread {
     pub base: u8,
@@ -166,6 +166,7 @@ impl Threads {
     }
 
     // Thread t is ready, at the front of the queue of its priority.
+    // It stands beside `arrive`, since one body for both would take the join as a closure, in more lines.
     fn arrive_in_front(mut self, t: u8) -> Threads
         ensures { result ≡ arrive_in_front_model self t }
     {

@@ -160,6 +160,7 @@ pub fn tick(wheel: &mut WheelWords) -> Turned
     let mut rest = load(wheel, here, 0);
     let mut due: u32 = 0;
     let mut visits: u8 = 0;
+    // No index is counted: the lowest bit that is set is taken off each time.
     while 0 < rest {
         let id = u32::trailing_zeros(rest) as u8;
         let i = id as usize;
