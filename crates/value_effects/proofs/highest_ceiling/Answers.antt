@@ -1,4 +1,4 @@
--- `highest_ceiling` is the search. The invariant: the best so far and the ceilings left give what the whole search gives. The measure is what is left. Assumes nothing.
+-- `highest_ceiling` is the search. The invariant: the best so far and the ceilings left give what the whole search gives. Assumes nothing.
 use mathlib.Core.Path.{◌≡◌, sym, ◌∙◌}
 use native.Mathlib.Omega.{arith}
 use lib.ListN.{length}

@@ -1,4 +1,4 @@
--- `highest_ceiling` is the search. The invariant: the best so far and the ceilings left give what the whole search gives. The measure is what is left. Assumes nothing.
+-- `highest_ceiling` is the search. The invariant: the best so far and the ceilings left give what the whole search gives. Assumes nothing.
 use Prim.Native.Nat.{max}
 use mathlib.Core.Path.{◌≡◌}
 use lib.ListN.{drop}

@@ -1,4 +1,4 @@
--- `empty_words` meets its contract. The invariant: the spokes of the timers below i are written. The measure is what is left. Assumes nothing.
+-- `empty_words` meets its contract. The invariant: the spokes of the timers below i are written. Assumes nothing.
 use mathlib.Core.Path.{sym, ap, ◌∙◌}
 use native.Mathlib.Omega.{arith}
 use Rattle.wheel.specs.Inside.{made}

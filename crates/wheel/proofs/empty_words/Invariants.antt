@@ -1,4 +1,4 @@
--- `empty_words` meets its contract. The invariant: the spokes of the timers below i are written. The measure is what is left. Assumes nothing.
+-- `empty_words` meets its contract. The invariant: the spokes of the timers below i are written. Assumes nothing.
 use Prim.Native.Nat.{◌≤◌}
 use mathlib.Core.Path.{◌≡◌}
 use Rattle.wheel.specs.Inside.{laid}

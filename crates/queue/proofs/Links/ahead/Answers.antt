@@ -1,5 +1,5 @@
--- `Links::ahead` goes the way that its definition says. The invariant: from the thread met, along the links that are left, the way gives what the whole way
--- gives. The measure is how many are left. Assumes nothing.
+-- `Links::ahead` goes the way that its definition says. The invariant: from the thread met, along the links that are left, the way gives what the whole
+-- way gives. Assumes nothing.
 use mathlib.Core.Path.{refl}
 use native.Mathlib.Omega.{arith}
 use Rattle.queue.proofs.Searches.{way_begins, way_ends, way_spent, way_found, way_on}

@@ -1,5 +1,5 @@
--- `Links::ahead` goes the way that its definition says. The invariant: from the thread met, along the links that are left, the way gives what the whole way
--- gives. The measure is how many are left. Assumes nothing.
+-- `Links::ahead` goes the way that its definition says. The invariant: from the thread met, along the links that are left, the way gives what the whole
+-- way gives. Assumes nothing.
 use Rattle.queue.proofs.Searches.{OnWay}
 use Rattle.queue.proofs.Links.ahead.Given as goal
 

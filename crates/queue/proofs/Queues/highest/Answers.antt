@@ -1,5 +1,4 @@
--- `Queues::highest` is the plain search. The invariant: the search below the priorities passed gives what the whole search gives.
--- The measure is how many are left. Assumes nothing.
+-- `Queues::highest` is the plain search. The invariant: the search below the priorities passed gives what the whole search gives. Assumes nothing.
 use Prim.Native.Nat.{◌+◌, ◌-◌}
 use mathlib.Core.Path.{◌≡◌, refl, sym, ap, ◌∙◌}
 use native.Mathlib.Omega.{arith}

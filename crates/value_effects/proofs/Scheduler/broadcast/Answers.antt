@@ -1,4 +1,4 @@
--- `Scheduler::broadcast` is its definition. The invariant: going on from here gives what the whole gives. The measure is how many may still leave. Assumes nothing.
+-- `Scheduler::broadcast` is its definition. The invariant: going on from here gives what the whole gives. Assumes nothing.
 use mathlib.Core.Path.{◌≡◌, refl, sym, ap, ◌∙◌}
 use native.Mathlib.Omega.{arith}
 use Rattle.value_effects.proofs.Broadcasting.{on_from, broadcast_on, broadcast_none, broadcast_all}

@@ -1,4 +1,4 @@
--- `Engine::serve_all` is its definition. The invariant: going on from here gives what the whole gives. The measure is how many may still be served. Assumes nothing.
+-- `Engine::serve_all` is its definition. The invariant: going on from here gives what the whole gives. Assumes nothing.
 use mathlib.Core.Path.{◌≡◌, refl, sym, ap, ◌∙◌}
 use native.Mathlib.Omega.{arith}
 use Rattle.wheel.specs.Promise.{ids_of}

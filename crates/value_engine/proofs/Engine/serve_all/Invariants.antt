@@ -1,4 +1,4 @@
--- `Engine::serve_all` is its definition. The invariant: going on from here gives what the whole gives. The measure is how many may still be served. Assumes nothing.
+-- `Engine::serve_all` is its definition. The invariant: going on from here gives what the whole gives. Assumes nothing.
 use Prim.Native.Nat.{◌≤◌}
 use mathlib.Core.Path.{◌≡◌}
 use Rattle.wheel.specs.Promise.{ids_of}
