@@ -27,6 +27,7 @@ RELATIONS: Mapping[str, Tuple[Tuple[int, ...], str]] = {
     "Saves": ((2, 3), "saves_once"),
     "Gives": ((3, 4), "gives_once"),
     "Ends": ((2, 3), "ends_once"),
+    "Judges": ((1,), "judges_once"),
 }
 # Where a clause of a promise begins, with its name where it has one.
 CLAUSE = re.compile(r"^ *ensures\b[^{\n]*\{", re.M)

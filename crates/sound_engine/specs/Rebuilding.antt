@@ -1,6 +1,6 @@
 -- When the tables of an engine follow from a page, and when an engine follows from its own.
 -- Assumes nothing.
-use Rattle.std.specs.Prelude.{ℕ, ◌≡◌, Bool, true, ◌&&◌, List}
+use Rattle.std.specs.Prelude.{ℕ, ◌≡◌, ◌↔◌, Bool, true, ◌&&◌, List, Result, is_ok, IfOk, IfErr}
 use Rattle.wheel.specs.Promise.{wheel_in}
 use Rattle.rules.specs.Page.{page_formed, page_sound}
 use Rattle.value_engine.specs.declared.Engine.{Engine}
@@ -22,3 +22,9 @@ page_passes x = page_formed (said (describe_model x)) && page_sound (said (descr
 -- its page is formed and sound, and the engine is the one that is built from it
 abbrev pub Follows : Engine → Type 0
 Follows x = (page_passes x ≡ true) × (x ≡ build_model (describe_model x))
+
+-- what is judged of an engine: its page, as it follows from that or, as an error, does not
+pub record Judges (x : Engine) (r : Result Page Page) : Type 0 where
+  pub sound : (is_ok r ≡ true) ↔ Follows x
+  pub ok : IfOk r (λ page. page ≡ describe_model x)
+  pub err : IfErr r (λ page. page ≡ describe_model x)

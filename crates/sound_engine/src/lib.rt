@@ -2,9 +2,8 @@
 // them, and the two are compared byte by byte and word by word. Whether started, the counts and the tick count are the page's own.
 #![tactic(auto)]
 
-ghost use Rattle.std.specs.Prelude.{◌≡◌, ◌↔◌, true, is_ok, IfOk, IfErr};
-ghost use Rattle.page_describing.specs.Describing.{describe_model};
-ghost use Rattle.sound_engine.specs.Rebuilding.{Rebuilt, Follows};
+ghost use Rattle.std.specs.Prelude.{◌≡◌, ◌↔◌, true};
+ghost use Rattle.sound_engine.specs.Rebuilding.{Rebuilt, Judges};
 
 use choice::both;
 use page::Page;
@@ -33,9 +32,7 @@ fn rebuilt(cells: &Cells, clock: &ClockWords, wheel: &WheelWords, page: Page) ->
 
 // The page of an engine, where it is sound and all that the engine keeps besides follows from it; as an error the page of any other engine.
 pub fn judge(engine: Engine) -> Result<Page, Page>
-    ensures sound { (is_ok result ≡ true) ↔ Follows engine }
-    ensures ok { IfOk result (λ page. page ≡ describe_model engine) }
-    ensures err { IfErr result (λ page. page ≡ describe_model engine) }
+    ensures { Judges engine result }
 {
     let cells = cells_of(engine);
     let clock = clock_words(engine);
