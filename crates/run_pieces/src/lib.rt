@@ -1,7 +1,7 @@
 // A run, fed block after block: it begins at boot or at a record, answers the rows of its blocks wherever these are cut, and ends in a record.
 #![tactic(auto)]
 
-ghost use Rattle.std.specs.Prelude.{◌≡◌, min, take};
+ghost use Rattle.std.specs.Prelude.{◌≡◌, take};
 ghost use Rattle.run_text.specs.Texts.{collected, used_after};
 ghost use Rattle.record_bytes.specs.Loading.{load, save};
 ghost use Rattle.run_pieces.specs.Whole.{AtBoot, AtRecord};
@@ -73,25 +73,14 @@ fn open(opened: bool, refused: u8, output: &mut [u8]) -> usize
     collect(refusal(refused), 0, output)
 }
 
-// The smaller of two numbers.
-fn at_most(count: usize, most: usize) -> usize
-    ensures { result ≡ min count most }
-{
-    if most < count {
-        return most;
-    }
-    count
-}
-
 // The kept bytes and then those of a piece, first in an array that has room for both, and how many they are.
 fn join(kept: Row, count: usize, block: &Block, held: usize, joined: &mut [u8; JOINED]) -> usize
     ensures { Joins (kept_then kept count block.now held) joined.old result joined.new }
 {
-    let few = at_most(count, KEPT);
-    let many = at_most(held, BLOCK);
+    let few = count.min(KEPT);
+    let many = held.min(BLOCK);
     let first = lay(&kept[..few], 0, joined);
-    let all = &block[..];
-    lay(&all[..many], first, joined)
+    lay(&block[..many], first, joined)
 }
 
 // The line of a row that is cut short, where so many bytes of one are kept; none where none are.

@@ -11,7 +11,7 @@ use Rattle.run_pieces.proofs.join.Goals as goal
 pub slice_bounds-lay-end : goal.slice_bounds-lay-end
 slice_bounds-lay-end c =
     let kept = c.args.kept in
-    let few = c.at_most-few.result in
+    let few = c.min-few.result in
     let within : few ≤ length kept = search rules in
     sym (length-take-le few kept within)
 
@@ -19,14 +19,14 @@ pub slice_bounds-lay-end-3 : goal.slice_bounds-lay-end-3
 slice_bounds-lay-end-3 c =
     let block = c.args.block.now in
     let size : length block ≡ 8192 = search rules in
-    sym (length-take-le _ block (omega (arith, c.at_most-many.ensures)))
+    sym (length-take-le _ block (omega (arith, c.min-many.ensures)))
 
 pub returns : goal.returns
 returns c =
     let given = c.args in
     let block = given.block.now in
-    let few = c.at_most-few in
-    let many = c.at_most-many in
+    let few = c.min-few in
+    let many = c.min-many in
     let first = c.lay-first in
     let second = c.lay in
     let size : length block ≡ 8192 = search rules in
