@@ -1,4 +1,4 @@
--- A table that a loop fills, row after row: how it begins, goes on and ends.
+-- A table of which the rows below k are made, filled row after row: how it begins, goes on and ends.
 -- Assumes nothing.
 use Prim.Native.Nat.{ℕ, ◌+◌, ◌<◌, ◌≤◌}
 use mathlib.Core.Path.{◌≡◌, sym, ◌∙◌}

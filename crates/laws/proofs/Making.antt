@@ -1,15 +1,24 @@
 -- A table that `array::from_fn` makes by a closure that changes nothing is the table of the function that gives each entry.
 -- Assumes nothing.
 use Prim.Native.Nat.{ℕ, zero, suc, ◌+◌, ◌<◌}
-use mathlib.Core.Path.{◌≡◌, refl, sym, ap, subst, ◌∙◌}
-use mathlib.Core.List.{List}
+use mathlib.Core.Path.{◌≡◌, refl, sym, ap, ap₂, subst, ◌∙◌}
+use mathlib.Core.List.{List, [], ◌∷◌}
 use native.Mathlib.Omega.{arith}
-use lib.ListN.{get_or}
+use lib.ListN.{length, get_or}
 use Rattle.std.specs.Fn.{Mut, Called}
 use Rattle.std.specs.Array.{IsFromFnResult, IsFromFnResultFrom}
 use Rattle.laws.specs.Lists.{tabulate}
 use Rattle.laws.proofs.Lists.{by_equal}
-use Rattle.laws.proofs.Tabulating.{tabulated}
+
+-- n entries, each what f gives at its index
+module _ {A : Type 0} where
+  tabulated : (n : ℕ) (f : ℕ → A) (l : List A) (d : A) → length l ≡ n → ((i : ℕ) → i < n → get_or l i d ≡ f i) → l ≡ tabulate n f
+  unfolding tabulate
+  tabulated zero f [] d e h = refl
+  tabulated zero f (x ∷ l) d e h = absurd (omega (arith, e))
+  tabulated (suc n) f [] d e h = absurd (omega (arith, e))
+  tabulated (suc n) f (x ∷ l) d e h =
+      ap₂ (λ x l. x ∷ l) (h zero (omega arith)) (tabulated n (λ i. f (suc i)) l d (omega (arith, e)) (λ i k. h (suc i) (omega (arith, k))))
 
 module _ {F A : Type 0} (g : Mut F (ℕ × Unit {0}) A) (f : F) (l : List A) (n : ℕ) (h : ℕ → A)
     (call : (i : ℕ) (a : A) (k : F) → i < n → Called g f (i, tt) a k → (k ≡ f) × (a ≡ h i)) where

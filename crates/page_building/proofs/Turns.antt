@@ -1,4 +1,4 @@
--- One turn of each loop that builds an engine.
+-- One turn of each loop that builds an engine, and a table made entry by entry of which n rows are in use.
 -- Assumes nothing.
 use Prim.Native.Nat.{ℕ, suc, ◌+◌, ◌-◌, ◌<◌, ◌≤◌, min}
 use mathlib.Core.Path.{◌≡◌, sym, ap, ◌∙◌}

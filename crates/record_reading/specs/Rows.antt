@@ -2,7 +2,7 @@
 -- has them.
 -- Assumes nothing.
 use Rattle.std.specs.Prelude.{Option, Some, None}
-use Rattle.std.specs.Prelude.{ℕ, ◌+◌, ◌*◌, Bool, true, false, cond, not, ◌&&◌, List, [], ◌∷◌, length, eqb, ltb, leb}
+use Rattle.std.specs.Prelude.{ℕ, ◌+◌, ◌*◌, Bool, cond, not, ◌&&◌, List, [], ◌∷◌, length, eqb, ltb, leb}
 use Rattle.laws.specs.Lists.{tabulate}
 use Rattle.units.specs.Units.{outside}
 use Rattle.rules.specs.State as state
@@ -14,7 +14,7 @@ use Rattle.value_effects.specs.declared.Mutex.{Mutex}
 use Rattle.page.specs.declared.ThreadRow.{ThreadRow}
 use Rattle.page.specs.declared.TimerRow.{TimerRow}
 use Rattle.page.specs.declared.Page.{Page}
-use Rattle.page.specs.Says.{thread_for, mutex_for, timer_for, stopped_timer_row, page_for, empty_page}
+use Rattle.page.specs.Says.{thread_for, mutex_for, timer_for, stopped_timer_row, page_for}
 use Rattle.record_bytes.specs.Record.{byte, word_at, page_in, formed}
 
 -- ---- rows at a place

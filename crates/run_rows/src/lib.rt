@@ -1,11 +1,10 @@
 // A row of 8 bytes as one call: taken apart, done or answered 17.
 #![tactic(auto)]
 
-ghost use Rattle.std.specs.Prelude.{◌≡◌, true};
+ghost use Rattle.std.specs.Prelude.{◌≡◌, true, None};
 ghost use Rattle.rules.specs.State.{State};
 ghost use Rattle.rules.specs.Sound.{sound};
 ghost use Rattle.rules.specs.Step.{step_row, step_decoded};
-ghost use Rattle.std.specs.Prelude.{None};
 ghost use Rattle.value_engine.specs.Stands.{engine_of, stepped_of};
 ghost use Rattle.place_step.specs.Turning.{wrong_row_model};
 ghost use Rattle.run_rows.specs.Rows.{row_model, row_at};

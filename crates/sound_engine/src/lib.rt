@@ -30,7 +30,7 @@ fn rebuilt(cells: &Cells, clock: &ClockWords, wheel: &WheelWords, page: Page) ->
     both(scheduled, both(timed, hung))
 }
 
-// The page of an engine, where it is sound and all that the engine keeps besides follows from it; as an error the page of any other engine.
+// The page of an engine; as an error where it is not sound, or the engine keeps something that does not follow from it.
 pub fn judge(engine: Engine) -> Result<Page, Page>
     ensures { Judges engine result }
 {

@@ -3,8 +3,7 @@
 // An id is taken modulo the size of its table, so that every function is total; a call with an id that does not exist is refused first.
 #![tactic(auto)]
 
-ghost use Rattle.std.specs.Prelude.{◌≡◌, true};
-ghost use Rattle.std.specs.Prelude.{None};
+ghost use Rattle.std.specs.Prelude.{◌≡◌, true, None};
 ghost use Rattle.calls.specs.declared.Verdict.TheVariants.{WrongRow};
 ghost use Rattle.units.specs.Units.{in_ticks};
 ghost use Rattle.rules.specs.State.{State, boot};

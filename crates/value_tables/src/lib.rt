@@ -265,8 +265,8 @@ impl Threads {
             };
         }
         if row.priority < first.priority {
-            let behind = self.arrive_in_front(running);
-            return behind.run_first(running);
+            let in_front = self.arrive_in_front(running);
+            return in_front.run_first(running);
         }
         if tick {
             if row.priority == first.priority {

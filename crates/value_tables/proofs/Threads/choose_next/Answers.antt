@@ -15,7 +15,7 @@ returns-then-first-ge-PRIORITIES c =
 pub returns-then-row-first : goal.returns-then-row-first
 unfolding choose_next_model
 returns-then-row-first c =
-    rw (lt-leb _ _ c.if-row-ge-FOR_MUTEX.false, ← c.highest_first-first.ensures, lt-leb _ _ c.if-first-ge-PRIORITIES.false, lt-ltb _ _ c.if-row-first.true, ← c.arrive_in_front-behind.ensures) c.run_first-then-row-first.ensures
+    rw (lt-leb _ _ c.if-row-ge-FOR_MUTEX.false, ← c.highest_first-first.ensures, lt-leb _ _ c.if-first-ge-PRIORITIES.false, lt-ltb _ _ c.if-row-first.true, ← c.arrive_in_front-in_front.ensures) c.run_first-then-row-first.ensures
 
 pub returns-then-row-first-2 : goal.returns-then-row-first-2
 unfolding choose_next_model
