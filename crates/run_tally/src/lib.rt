@@ -2,7 +2,10 @@
 // a kernel, each of which tests first that the kernel is sound.
 #![tactic(auto)]
 
-ghost use Rattle.std.specs.Prelude.{◌≡◌};
+ghost use Rattle.std.specs.Prelude.{◌≡◌, ℕ};
+ghost use Rattle.rules.specs.State.{boot};
+ghost use Rattle.value_engine.specs.Stands.{engine_of};
+ghost use Rattle.run_rows.specs.Many.{Reached};
 ghost use Rattle.run_tally.specs.Sums.{add_weight, tally_on, tally_by, tally_from, Describes, tally_row, over_rows, repeated, sum_of};
 
 use calls::{Answer, ROW, Row};
@@ -118,45 +121,6 @@ fn tally_row_by_value(tally: Tally, row: Row) -> Tally
     Tally { engine, sum }
 }
 
-// All whole rows, in order, by value.
-fn tally_rows_by_value(tally: Tally, rows: &[u8]) -> Tally
-    ensures { tally_by result ≡ over_rows (tally_by tally) rows.now }
-{
-    let mut reached = tally;
-    let count = rows.len() / ROW;
-    for i in 0..count {
-        reached = tally_row_by_value(reached, row_at(rows, i * ROW));
-    }
-    reached
-}
-
-// All whole rows, in order, so many times, by value.
-fn tally_repeated_by_value(tally: Tally, rows: &[u8], repeats: u64) -> Tally
-    ensures { tally_by result ≡ repeated repeats (tally_by tally) rows.now }
-{
-    let mut reached = tally;
-    for _ in 0..repeats {
-        reached = tally_rows_by_value(reached, rows);
-    }
-    reached
-}
-
-// The same sum as `run_rows`, by value.
-pub fn run_rows_by_value(setup: &[u8], rows: &[u8], repeats: u64) -> u64
-    ensures { result ≡ sum_of setup.now rows.now repeats }
-{
-    let engine = Engine::boot();
-    let first = Tally { engine, sum: 0 };
-    let ready = tally_rows_by_value(first, setup);
-    let after = ready.engine;
-    let begun = Tally {
-        engine: after,
-        sum: 0,
-    };
-    let ended = tally_repeated_by_value(begun, rows, repeats);
-    ended.sum
-}
-
 // One row more, by a public call.
 fn tally_row_by_calls(called: Called, row: Row) -> Called
     ensures { Describes called → Describes result × (tally_from result ≡ tally_row (tally_from called) row) }
@@ -168,27 +132,103 @@ fn tally_row_by_calls(called: Called, row: Row) -> Called
     Called { kernel, sum }
 }
 
-// All whole rows, in order, by public calls.
-fn tally_rows_by_calls(called: Called, rows: &[u8]) -> Called
-    ensures { Describes called → Describes result × (tally_from result ≡ over_rows (tally_from called) rows.now) }
+// An engine in some form, with the sum of the answers that it gave.
+trait Tallying: Copy {
+    // The engine by value, and the sum.
+    ghost reached: { Self → Reached ℕ };
+
+    // What is asked of the form before a row, and kept by it.
+    ghost Fit: { Self → Type 0 };
+
+    // One row more.
+    fn with_row(self, row: Row) -> Self
+        ensures { Fit self → Fit result × (reached result ≡ tally_row (reached self) row) };
+
+    // The engine as it is, with no answer yet.
+    fn anew(self) -> Self
+        ensures { Fit self → Fit result × (reached result ≡ record { engine = (reached self).engine; made = 0 }) };
+
+    // The sum.
+    fn total(self) -> u64
+        ensures { result ≡ (reached self).made };
+}
+
+impl Tallying for Tally {
+    ghost reached = { tally_by };
+
+    ghost Fit = { λ t. Unit };
+
+    fn with_row(self, row: Row) -> Tally {
+        tally_row_by_value(self, row)
+    }
+
+    fn anew(self) -> Tally {
+        Tally { sum: 0, ..self }
+    }
+
+    fn total(self) -> u64 {
+        self.sum
+    }
+}
+
+impl Tallying for Called {
+    ghost reached = { tally_from };
+
+    ghost Fit = { Describes };
+
+    fn with_row(self, row: Row) -> Called {
+        tally_row_by_calls(self, row)
+    }
+
+    fn anew(self) -> Called {
+        Called { sum: 0, ..self }
+    }
+
+    fn total(self) -> u64 {
+        self.sum
+    }
+}
+
+// All whole rows, in order, in any form.
+fn tally_rows_by<T: Tallying>(tally: T, rows: &[u8]) -> T
+    ensures { T.Fit tally → T.Fit result × (T.reached result ≡ over_rows (T.reached tally) rows.now) }
 {
-    let mut reached = called;
+    let mut reached = tally;
     let count = rows.len() / ROW;
     for i in 0..count {
-        reached = tally_row_by_calls(reached, row_at(rows, i * ROW));
+        reached = reached.with_row(row_at(rows, i * ROW));
     }
     reached
 }
 
-// All whole rows, in order, so many times, by public calls.
-fn tally_repeated_by_calls(called: Called, rows: &[u8], repeats: u64) -> Called
-    ensures { Describes called → Describes result × (tally_from result ≡ repeated repeats (tally_from called) rows.now) }
+// All whole rows, in order, so many times, in any form.
+fn tally_repeated_by<T: Tallying>(tally: T, rows: &[u8], repeats: u64) -> T
+    ensures { T.Fit tally → T.Fit result × (T.reached result ≡ repeated repeats (T.reached tally) rows.now) }
 {
-    let mut reached = called;
+    let mut reached = tally;
     for _ in 0..repeats {
-        reached = tally_rows_by_calls(reached, rows);
+        reached = tally_rows_by(reached, rows);
     }
     reached
+}
+
+// The rows of a setup once, and then the rows of a loop so many times, in any form; the sum of the loop's answers.
+fn sum_by<T: Tallying>(first: T, setup: &[u8], rows: &[u8], repeats: u64) -> u64
+    ensures { T.Fit first → T.reached first ≡ record { engine = engine_of boot; made = 0 } → result ≡ sum_of setup.now rows.now repeats }
+{
+    let ready = tally_rows_by(first, setup);
+    let begun = ready.anew();
+    let ended = tally_repeated_by(begun, rows, repeats);
+    ended.total()
+}
+
+// The same sum as `run_rows`, by value.
+pub fn run_rows_by_value(setup: &[u8], rows: &[u8], repeats: u64) -> u64
+    ensures { result ≡ sum_of setup.now rows.now repeats }
+{
+    let engine = Engine::boot();
+    let first = Tally { engine, sum: 0 };
+    sum_by(first, setup, rows, repeats)
 }
 
 // The same sum as `run_rows`, by public calls.
@@ -197,12 +237,5 @@ pub fn run_rows_by_calls(setup: &[u8], rows: &[u8], repeats: u64) -> u64
 {
     let kernel = Kernel::boot();
     let first = Called { kernel, sum: 0 };
-    let ready = tally_rows_by_calls(first, setup);
-    let after = ready.kernel;
-    let begun = Called {
-        kernel: after,
-        sum: 0,
-    };
-    let ended = tally_repeated_by_calls(begun, rows, repeats);
-    ended.sum
+    sum_by(first, setup, rows, repeats)
 }
