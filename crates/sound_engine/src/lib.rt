@@ -6,7 +6,6 @@ ghost use Rattle.std.specs.Prelude.{◌≡◌, ◌↔◌, true, is_ok, IfOk, IfE
 ghost use Rattle.page_describing.specs.Describing.{describe_model};
 ghost use Rattle.sound_engine.specs.Rebuilding.{Rebuilt, Follows};
 
-use choice::both;
 use page::Page;
 use page_building::{built_cells, built_clock, built_wheel};
 use page_describing::describe;
@@ -28,7 +27,7 @@ fn rebuilt(cells: &Cells, clock: &ClockWords, wheel: &WheelWords, page: Page) ->
     let timed = same_clocks(clock, &timers);
     let spokes = built_wheel(page);
     let hung = same_words(wheel, &spokes);
-    both(scheduled, both(timed, hung))
+    scheduled && timed && hung
 }
 
 // The page of an engine, where it is sound and all that the engine keeps besides follows from it; as an error the page of any other engine.
