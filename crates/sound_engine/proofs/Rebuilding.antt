@@ -19,14 +19,14 @@ use Rattle.sound_engine.specs.Rebuilding.{Rebuilt, page_passes, Follows}
 module _ (k l t u w v : List ℕ) (p : Page)
     (cells : scheduler_in l ≡ (build_model p).scheduler) (clock : clock_in u ≡ clock_of (build_model p).timers (build_model p).count) (wheel : wheel_in v ≡ (build_model p).wheel)
     (a b c : Bool) (scheduled : (a ≡ true) ↔ (scheduler_in k ≡ scheduler_in l)) (timed : (b ≡ true) ↔ (clock_in t ≡ clock_in u)) (hung : (c ≡ true) ↔ (wheel_in w ≡ wheel_in v)) where
-  pub tables_decide : (d r : Bool) → d ≡ (b && c) → r ≡ (a && d) → (r ≡ true) ↔ Rebuilt k t w p
-  tables_decide d r f e = (
-    λ h. let all = sym e ∙ h in let rest = sym f ∙ and_right a d all in (
-      scheduled.0 (and_left a d all) ∙ cells,
-      timed.0 (and_left b c rest) ∙ clock,
-      hung.0 (and_right b c rest) ∙ wheel,
+  pub tables_decide : (r : Bool) → r ≡ (a && b && c) → (r ≡ true) ↔ Rebuilt k t w p
+  tables_decide r e = (
+    λ h. let all = sym e ∙ h in let two = and_left (a && b) c all in (
+      scheduled.0 (and_left a b two) ∙ cells,
+      timed.0 (and_right a b two) ∙ clock,
+      hung.0 (and_right (a && b) c all) ∙ wheel,
     ),
-    λ g. e ∙ and_both a d (scheduled.1 (g.0 ∙ sym cells)) (f ∙ and_both b c (timed.1 (g.1 ∙ sym clock)) (hung.1 (g.2 ∙ sym wheel))),
+    λ g. e ∙ and_both (a && b) c (and_both a b (scheduled.1 (g.0 ∙ sym cells)) (timed.1 (g.1 ∙ sym clock))) (hung.1 (g.2 ∙ sym wheel)),
   )
 
 -- where the page does not pass, the engine does not follow from it

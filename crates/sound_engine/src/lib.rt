@@ -5,7 +5,6 @@
 ghost use Rattle.std.specs.Prelude.{◌≡◌, ◌↔◌, true};
 ghost use Rattle.sound_engine.specs.Rebuilding.{Rebuilt, Judges};
 
-use choice::both;
 use page::Page;
 use page_building::{built_cells, built_clock, built_wheel};
 use page_describing::describe;
@@ -27,7 +26,7 @@ fn rebuilt(cells: &Cells, clock: &ClockWords, wheel: &WheelWords, page: Page) ->
     let timed = same_clocks(clock, &timers);
     let spokes = built_wheel(page);
     let hung = same_words(wheel, &spokes);
-    both(scheduled, both(timed, hung))
+    scheduled && timed && hung
 }
 
 // The page of an engine; as an error where it is not sound, or the engine keeps something that does not follow from it.

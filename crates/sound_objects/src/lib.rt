@@ -5,7 +5,6 @@
 ghost use Rattle.std.specs.Prelude.{◌≡◌};
 ghost use Rattle.sound_objects.specs.Objects.{ceilings_in, mutex_waiter_fits, mutex_waiters_in, owner_fits, mutex_fits, mutexes_in, ceiling_of, condition_waiter_fits, condition_waiters_in, tie_fits, condition_fits, conditions_in, ticks_fit, timer_fits, timers_in};
 
-use choice::both;
 use limits::{
     CONDITIONS, FOR_MUTEX, HIGHEST, MOST_COUNT, MUTEXES, NONE, ON_CONDITION, ONE_SHOT, STOPPED,
     THREADS, TIMERS,
@@ -28,7 +27,7 @@ fn mutex_waiter_fits(m: u8, row: Mutex, t: u8, other: ThreadRow, its: u8) -> boo
 {
     implied(
         stands(other, FOR_MUTEX, m),
-        both(t != row.owner, its <= row.ceiling),
+        t != row.owner && its <= row.ceiling,
     )
 }
 
@@ -54,15 +53,12 @@ fn owner_fits(threadrows: ThreadRows, threads: u8, m: u8, row: Mutex) -> bool
 {
     if row.owner == NONE {
         let waited = anyone(threadrows, threads, FOR_MUTEX, m);
-        return both(row.count == 0, !waited);
+        return row.count == 0 && !waited;
     }
     let i = (row.owner % THREADS) as usize;
     let owner = threadrows[i];
     let counted = within(1, MOST_COUNT, row.count);
-    both(
-        both(row.owner < threads, counted),
-        owner.base <= row.ceiling,
-    )
+    row.owner < threads && counted && owner.base <= row.ceiling
 }
 
 // The tests of one mutex: its owner, its waiters.
@@ -77,7 +73,7 @@ fn mutex_fits(
 {
     let owner = owner_fits(threadrows, threads, m, row);
     let waiters = mutex_waiters_fit(threadrows, threads, priorities, m, row);
-    both(owner, waiters)
+    owner && waiters
 }
 
 // The clause on mutexes.
@@ -122,7 +118,7 @@ fn condition_waiter_fits(
     if !stands(row, ON_CONDITION, c) {
         return true;
     }
-    both(owns_nothing(mutexrows, mutexes, t), row.base <= ceiling)
+    owns_nothing(mutexrows, mutexes, t) && row.base <= ceiling
 }
 
 // The test of a waiter on condition variable c, of each thread.
@@ -153,6 +149,7 @@ fn tie_fits(someone: bool, n: u8, tie: u8) -> bool
 }
 
 // The tests of one condition variable: its tie, its waiters.
+#[tactic(auto, unfolding(crate::specs::Objects::condition_fits, rules::specs::Page::where_of))]
 fn condition_fits(
     threadrows: ThreadRows,
     threads: u8,
@@ -166,10 +163,8 @@ fn condition_fits(
     let someone = anyone(threadrows, threads, ON_CONDITION, c);
     let tied = tie_fits(someone, mutexes, tie);
     let ceiling = ceiling_of(mutexrows, mutexes, tie);
-    both(
-        tied,
-        condition_waiters_fit(threadrows, threads, mutexrows, mutexes, c, ceiling),
-    )
+    let waiters = condition_waiters_fit(threadrows, threads, mutexrows, mutexes, c, ceiling);
+    tied && waiters
 }
 
 // The clause on condition variables.
@@ -210,11 +205,10 @@ fn timer_fits(conditions: u8, row: TimerRow) -> bool
     ensures { result ≡ timer_fits conditions row }
 {
     if row.state == STOPPED {
-        let blank = both(row.condition == NONE, row.length.0 == 0);
-        return both(blank, row.left.0 == 0);
+        return row.condition == NONE && row.length.0 == 0 && row.left.0 == 0;
     }
     let ticks = ticks_fit(row.state == ONE_SHOT, row.length, row.left);
-    both(row.condition < conditions, ticks)
+    row.condition < conditions && ticks
 }
 
 // The clause on timers.

@@ -6,7 +6,6 @@ ghost use Rattle.std.specs.Prelude.{◌≡◌};
 ghost use Rattle.sound_standing.specs.Standing.{stands_of};
 ghost use Rattle.sound_threads.specs.Threads.{base_fits, bases_in, idle_in, runs_fits, runs_in, runner_fits, runner_in, not_above, none_above_in, exists_in, objects_exist_in, object_fits, object_codes_in, beside_in, counted_in, place_fits, places_in};
 
-use choice::both;
 use limits::{FOR_MUTEX, HIGHEST, NONE, READY, RUNNING, THREADS};
 use page::{ThreadRow, ThreadRows};
 use sound_standing::{Priorities, implied, kind, owns_nothing, stands, within};
@@ -34,8 +33,9 @@ pub fn idle_sound(threadrows: ThreadRows, mutexrows: MutexTable, mutexes: u8) ->
     ensures { result ≡ idle_in threadrows mutexrows mutexes }
 {
     let row = threadrows[0];
-    let here = kind(row.state);
-    both(here < FOR_MUTEX, owns_nothing(mutexrows, mutexes, 0))
+    let active = kind(row.state) < FOR_MUTEX;
+    let free = owns_nothing(mutexrows, mutexes, 0);
+    active && free
 }
 
 // A thread runs exactly if it is the runner of a started page.
@@ -43,7 +43,7 @@ fn runs_fits(started: bool, runner: u8, t: u8, row: ThreadRow) -> bool
     ensures { result ≡ runs_fits started runner t row }
 {
     let runs = stands(row, RUNNING, NONE);
-    let ought = both(started, t == runner);
+    let ought = started && t == runner;
     runs == ought
 }
 
@@ -69,15 +69,16 @@ pub fn runner_sound(started: bool, runner: u8, threadrows: ThreadRows, threads: 
     ensures { result ≡ runner_in started runner threadrows threads }
 {
     let runs = runs_sound(started, runner, threadrows, threads);
-    both(runs, runner_fits(started, runner, threads))
+    let fits = runner_fits(started, runner, threads);
+    runs && fits
 }
 
 // A thread of this priority that is ready while started is not above the runner's.
 fn not_above(started: bool, top: u8, row: ThreadRow, mine: u8) -> bool
     ensures { result ≡ not_above started top row mine }
 {
-    let waits = both(started, stands(row, READY, NONE));
-    implied(waits, mine <= top)
+    let ready = stands(row, READY, NONE);
+    implied(started && ready, mine <= top)
 }
 
 // The clause that none is ready above the runner, whose priority is handed in.
@@ -135,10 +136,11 @@ pub fn object_codes_sound(threadrows: ThreadRows, threads: u8) -> bool
 }
 
 // Whether a thread of another row and priority is in the queue of a thread of this row and priority.
+#[tactic(auto, unfolding(crate::specs::Threads::beside_in))]
 fn beside(row: ThreadRow, mine: u8, other: ThreadRow, its: u8) -> bool
     ensures { result ≡ beside_in row mine other its }
 {
-    both(stands(other, row.state, row.object), its == mine)
+    stands(other, row.state, row.object) && its == mine
 }
 
 // As many of a thread's queue have a smaller place as its place says, and no other has the same.
@@ -157,10 +159,10 @@ fn counted(
         let i = (u % THREADS) as usize;
         let other = threadrows[i];
         let queued = beside(row, mine, other, priorities[i]);
-        smaller += u8::from(both(queued, other.place < row.place));
-        equal += u8::from(both(queued, other.place == row.place));
+        smaller += u8::from(queued && other.place < row.place);
+        equal += u8::from(queued && other.place == row.place);
     }
-    both(smaller == row.place, equal == 1)
+    smaller == row.place && equal == 1
 }
 
 // The place of a thread is 0 if it runs, else as its queue has it.

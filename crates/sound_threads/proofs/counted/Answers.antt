@@ -11,21 +11,27 @@ loop-u-init c = (sym (many_none _), sym (many_none _))
 
 pub overflow_add-smaller : goal.overflow_add-smaller
 overflow_add-smaller c =
-    let fits = many_fits _ _ _ _ _ c.loop-u.invariant.0 c.from-smaller.ensures (omega arith) in search rules
+    let fits = many_fits _ _ _ _ _ c.loop-u.invariant.0 c.from.ensures (omega arith) in search rules
 
 pub overflow_add-equal : goal.overflow_add-equal
 overflow_add-equal c =
-    let fits = many_fits _ _ _ _ _ c.loop-u.invariant.1 c.from-equal.ensures (omega arith) in search rules
+    let fits = many_fits _ _ _ _ _ c.loop-u.invariant.1 c.from-in-loop-u.ensures (omega arith) in search rules
 
 pub loop-u-preserved : goal.loop-u-preserved
 unfolding smaller_at equal_at
 loop-u-preserved c = (
-  many_on _ _ _ _ _ c.loop-u.invariant.0 c.from-smaller.ensures (rw (c.both.ensures, c.beside-queued.ensures)),
-  many_on _ _ _ _ _ c.loop-u.invariant.1 c.from-equal.ensures (rw (c.both-in-loop-u.ensures, c.beside-queued.ensures)),
+  many_on _ _ _ _ _ c.loop-u.invariant.0 c.from.ensures (search rules),
+  many_on _ _ _ _ _ c.loop-u.invariant.1 c.from-in-loop-u.ensures (search rules),
 )
 
-pub returns : goal.returns
+pub returns-then-smaller-row : goal.returns-then-smaller-row
 unfolding counted_in
-returns c =
+returns-then-smaller-row c =
     let end : c.loop-u.u ≡ c.args.threads = omega arith in
-    rw (c.both-2.ensures, c.loop-u.invariant.0, c.loop-u.invariant.1, end)
+    let told = c.loop-u.invariant in search rules
+
+pub returns-else-smaller-row : goal.returns-else-smaller-row
+unfolding counted_in
+returns-else-smaller-row c =
+    let end : c.loop-u.u ≡ c.args.threads = omega arith in
+    let told = c.loop-u.invariant in search rules

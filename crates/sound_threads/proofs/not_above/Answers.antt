@@ -1,9 +1,9 @@
--- `not_above` meets its contract. Assumes nothing.
-use Rattle.sound_threads.specs.Threads.{not_above}
+-- `not_above` meets its contract: each test is asked where those before it hold. Assumes nothing.
+use Rattle.std.proofs.Common.{rules}
 use Rattle.rules.specs.Page.{where_of}
+use Rattle.sound_threads.specs.Threads.{not_above}
 use Rattle.sound_threads.proofs.not_above.Goals as goal
 
 pub returns : goal.returns
 unfolding not_above where_of
-returns c =
-    rw (c.implied.ensures, c.both-waits.ensures, c.stands.ensures)
+returns c = search rules
