@@ -29,7 +29,7 @@ from words import (
 from words.running import NOWHERE
 from words.sources import BOOT
 from words.streams import (
-    STANDARD_INPUT, Room, Trouble, complain, printable, put,
+    ENDS, STANDARD_INPUT, Room, Trouble, complain, printable, put,
 )
 
 DONE, NOT_DONE = 0, 2
@@ -37,7 +37,6 @@ LAST_TICK = 4_294_967_295
 HELP = ("help", "--help", "-h")
 # What `test` takes; its steps stand in ./tehuamozo.
 LIST, PARTS = "--list", ("proofs", "edits", "comparisons", "words")
-ENDS = (signal.SIGINT, signal.SIGTERM, signal.SIGHUP)
 A_MOMENT = 0.001
 
 

@@ -12,6 +12,8 @@ from __future__ import annotations
 
 import contextlib
 import os
+import shutil
+import signal
 import stat
 import sys
 import tempfile
@@ -20,6 +22,8 @@ from typing import Dict, List, NamedTuple, Optional
 STANDARD_INPUT = "-"
 LONGEST_WORD, LONGEST_NAME = 40, 200
 BLOCK = 65_536
+# The signals that end a word.
+ENDS = (signal.SIGINT, signal.SIGTERM, signal.SIGHUP)
 # What a new file may be used for, before the user's mask.
 NEW_FILE = 0o666
 # How the name of a file beside its place begins.
@@ -121,20 +125,34 @@ class Room:
         self.folder = ""
 
     def __enter__(self) -> Room:
-        """Make the folder."""
+        """Make the folder; a signal waits until it is in hand."""
+        before = signal.pthread_sigmask(signal.SIG_BLOCK, ENDS)
         try:
             made = tempfile.TemporaryDirectory(prefix="tehuamozo-")
+            self.folder = self.held.enter_context(made)
         except OSError as error:
             place = tempfile.gettempprefix()
             raise file_trouble(place, "made", error) from error
-        self.folder = self.held.enter_context(made)
+        finally:
+            signal.pthread_sigmask(signal.SIG_SETMASK, before)
         return self
 
     def __exit__(self, *_: object) -> None:
-        """Remove the folder and whatever stands beside an output."""
+        """Remove the folder and whatever stands beside an output. A signal
+        that stops this is the last that is heard, so it is done again."""
+        try:
+            self.clear()
+        except BaseException:
+            self.clear()
+            raise
+
+    def clear(self) -> None:
+        """Remove what is left of the folder and beside the outputs."""
         for output in self.outputs:
             output.drop()
         self.held.close()
+        if self.folder:
+            shutil.rmtree(self.folder, ignore_errors=True)
 
     def path(self, name: str) -> str:
         """A path in the folder."""
