@@ -1,16 +1,17 @@
 -- One turn of each loop that builds an engine, and a table made entry by entry of which n rows are in use.
 -- Assumes nothing.
 use Prim.Native.Nat.{ℕ, suc, ◌+◌, ◌-◌, ◌<◌, ◌≤◌, min}
-use mathlib.Core.Path.{◌≡◌, sym, ap, ◌∙◌}
+use mathlib.Core.Path.{◌≡◌, refl, sym, ap, ◌∙◌}
 use mathlib.Core.Bool.{cond}
 use mathlib.Core.List.{List}
 use native.Mathlib.Omega.{arith}
-use lib.ListN.{get_or}
+use lib.ListN.{get_or, set, replicate}
 use lib.Dec.{eqb, ltb}
 use borrow.Author.Tests.{eq-eqb, ne_eqb, lt-ltb, le-ltb}
 use Rattle.std.specs.Fn.{Mut, Called}
 use Rattle.std.specs.Array.{IsFromFnResult}
 use Rattle.laws.specs.Filling.{filled}
+use Rattle.laws.proofs.Filling.{fill_none, fill_next}
 use Rattle.laws.proofs.Lists.{by_below, tabulate_below}
 use Rattle.laws.proofs.Making.{made}
 use Rattle.page.specs.declared.ThreadRow.{ThreadRow}
@@ -39,6 +40,23 @@ module _ {A : Type 0} (size : ℕ) (upto : ℕ → A) where
   going_ends n most i made h l = h.so_far ∙ ap upto (omega (arith, h.bound, h.room))
 
 -- ---- tables
+
+module _ {A : Type 0} (size : ℕ) (f : ℕ → A) (d : A) where
+  -- the first rows are filled
+  abbrev pub Filling : ℕ → ℕ → ℕ → List A → Type 0
+  Filling n most i made = Going size (filled size f d) n most i made
+
+  -- none at first
+  pub filling_starts : (n most : ℕ) → most ≡ min n size → Filling n most 0 (replicate size d)
+  filling_starts n most e = going_starts size (filled size f d) n most (replicate size d) e (fill_none size f d)
+
+  -- one more at each turn
+  pub filling_turns : (n most i : ℕ) (made : List A) → Filling n most i made → i < most → Filling n most (i + 1) (set made i (f i))
+  filling_turns n most i made h l = going_turns size (filled size f d) n most i made (set made i (f i)) (λ x. set x i (f i)) h l refl (fill_next size f d i (f i) (omega (arith, h.bound)) refl ∙ ap (filled size f d) (omega arith))
+
+  -- and all at the end
+  pub filling_ends : (n most i : ℕ) (made : List A) → Filling n most i made → most ≤ i → made ≡ filled size f d (min n size)
+  filling_ends = going_ends size (filled size f d)
 
 -- a table made entry by entry, of whose rows n are in use and the others blank
 pub in_use : {F A : Type 0} {g : Mut F (ℕ × Unit {0}) A} {f : F} {l : List A} (size n : ℕ) (h : ℕ → A) (d : A)

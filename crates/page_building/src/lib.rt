@@ -11,7 +11,7 @@ ghost use Rattle.place_clock.specs.Clock.{clock_in, clock_of};
 ghost use Rattle.page.specs.Says.{said};
 ghost use Rattle.page_building.specs.Building.{mutex_rows, tie_rows, running_row, thread_rows, timer_from, timer_rows, hung_below, runner_in, blank_scheduler, arrived_one, arrived_below, arrived_places, build_model};
 
-use limits::{FOR_MUTEX, NONE, ON_CONDITION, READY, RUNNING, THREADS, TIMERS};
+use limits::{FOR_MUTEX, NONE, ON_CONDITION, READY, RUNNING, THREAD_ROWS, THREADS, TIMERS};
 use page::{Page, ThreadRow, ThreadRows, TimerRow, TimerRows};
 use place_calls::Counts;
 use place_clock::{ClockWords, clock_of};
@@ -58,13 +58,11 @@ fn running_row(row: ThreadRow, mutexes: MutexTable, t: u8) -> Thread
 fn thread_rows(rows: ThreadRows, mutexes: MutexTable, n: u8) -> ThreadTable
     ensures { result ≡ thread_rows rows mutexes n }
 {
-    array::from_fn(|t| {
-        if t < n as usize {
-            running_row(rows[t], mutexes, t as u8)
-        } else {
-            BLANK_THREAD
-        }
-    })
+    let mut made = [BLANK_THREAD; THREAD_ROWS];
+    for t in 0..n.min(THREADS) {
+        made[t as usize] = running_row(rows[t as usize], mutexes, t);
+    }
+    made
 }
 
 // The engine's row of a timer; both are other crates' types, so no From can be written here.

@@ -121,7 +121,8 @@ fn put_levels(cells: &mut Cells, n: u8, levels: Levels)
     }
 }
 
-// Other sets of a kind.
+// Other sets of a kind. It is inlined, as `packed` is, so that where the sets are known to be empty no queue is put by itself.
+#[inline(always)]
 fn put_sets(cells: &mut Cells, kind: u8, sets: Sets)
     ensures { scheduler_in cells.new ≡ with_sets (scheduler_in cells.old) kind sets }
 {
@@ -150,6 +151,7 @@ fn put_ties(cells: &mut Cells, ties: Ties)
 }
 
 // The array of bytes in which a scheduler stands.
+#[inline(always)]
 pub fn packed(scheduler: Scheduler) -> Cells
     ensures { scheduler_in result ≡ scheduler }
 {

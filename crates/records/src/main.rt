@@ -6,7 +6,7 @@
 // output: its number from 1, the answer to its load, and the length of the save. The saves go to OUT, one after the other.
 #![tactic(auto)]
 
-ghost use Rattle.std.specs.Prelude.{IfOk};
+ghost use Rattle.std.specs.Prelude.{◌+◌, ◌*◌, ◌≡◌, IfOk};
 ghost use Rattle.program_files.specs.Counts.{IsPrefixLen};
 
 use program_files::{
@@ -21,6 +21,13 @@ use std::io::{Read, Write};
 
 // The bytes of a length.
 const LENGTH: usize = 2;
+
+// A length of 16 bits from its two bytes.
+fn length_of(low: u8, high: u8) -> usize
+    ensures { result ≡ low + high * 256 }
+{
+    usize::from(u16::from_le_bytes([low, high]))
+}
 
 // The bundle ends within a record: that is said.
 fn cut_short(rt: &impl System, path: &[u8]) -> Said {
@@ -50,7 +57,7 @@ fn read_length(
     let mut bytes = [0u8; LENGTH];
     match fill(rt, input, path, &mut bytes)? {
         0 => Ok(None),
-        LENGTH => Ok(Some(usize::from(u16::from_le_bytes(bytes)))),
+        LENGTH => Ok(Some(length_of(bytes[0], bytes[1]))),
         _ => Err(cut_short(rt, path)),
     }
 }
@@ -88,7 +95,12 @@ fn skip(rt: &impl System, input: &mut impl Read, path: &[u8], length: usize) -> 
     for _ in 0..beyond / BLOCK {
         skip_some(rt, input, path, BLOCK)?;
     }
-    skip_some(rt, input, path, beyond % BLOCK)
+    let rest = beyond % BLOCK;
+    // Most records are no longer than a block; for these none is made to read into.
+    if rest == 0 {
+        return Ok(());
+    }
+    skip_some(rt, input, path, rest)
 }
 
 // Loads a record and saves what load hands back, prints its line and writes the save. A save that is refused is said.

@@ -3,7 +3,7 @@
 use Prim.Native.Nat.{ℕ, zero, suc, ◌+◌, max}
 use mathlib.Core.Path.{◌≡◌, refl, ap, ◌∙◌}
 use mathlib.Core.Bool.{Bool, true, false, cond}
-use mathlib.Core.List.{map}
+use mathlib.Core.List.{List, [], ◌∷◌, map}
 use native.Mathlib.Omega.{arith}
 use Rattle.std.specs.List.{fold, reduce, find, range_with_len}
 use Rattle.std.specs.Option.{unwrap_or}
@@ -22,10 +22,19 @@ largest_from (suc n) a x f g h =
     let first : f a ≡ g 0 = ap f (omega arith) ∙ h 0 in
     largest_from n (a + 1) (max x (f a)) f (λ i. g (suc i)) (λ i. ap f (omega arith) ∙ h (suc i)) ∙ omega (arith, highest_first_lem n g)
 
+-- the order in which two are compared
+fold_swapped : (x : ℕ) (l : List ℕ) → fold (λ best y. max y best) x l ≡ fold max x l
+fold_swapped x [] = refl
+fold_swapped x (y ∷ l) = ap (λ z. fold (λ best y. max y best) z l) (omega arith) ∙ fold_swapped (max x y) l
+
 -- the largest of them, or 0
 pub largest_lem : (n : ℕ) (f : ℕ → ℕ) → unwrap_or (reduce max (map f (range_with_len 0 n))) 0 ≡ highest n f
 largest_lem zero f = unfold highest in refl
 largest_lem (suc n) f = largest_from n 1 (f 0) f (λ i. f (suc i)) (λ i. ap f (omega arith)) ∙ omega (arith, highest_first_lem n f)
+
+-- the largest of them and 0
+pub largest_above_0 : (n : ℕ) (f : ℕ → ℕ) → fold (λ best x. max x best) 0 (map f (range_with_len 0 n)) ≡ highest n f
+largest_above_0 n f = fold_swapped 0 (map f (range_with_len 0 n)) ∙ largest_from n 0 0 f f (λ i. ap f (omega arith)) ∙ omega arith
 
 -- one turn of the search
 turn : (b : Bool) (a : ℕ) (o : Option ℕ) (r : ℕ → ℕ) → unwrap_or o 255 ≡ r (a + 1) → unwrap_or (cond b (Some a) o) 255 ≡ cond b a (r (suc a))

@@ -69,8 +69,7 @@ fn highest_ceiling(mutexes: MutexTable, n: u8, t: u8) -> u8
 {
     (0..n)
         .map(|m| ceiling_for(mutexes[(m % MUTEXES) as usize], t))
-        .max()
-        .unwrap_or(0)
+        .fold(0, |best, ceiling| ceiling.max(best))
 }
 
 // The priority of thread t, with the first n mutexes.

@@ -72,7 +72,8 @@ fn trace_file(rt: &impl System, run: Run) -> Result<(), Said> {
     trace_into(rt, run, &mut input, path)
 }
 
-// Writes the one line of a refused run.
+// Writes the one line of a refused run. Not inlined, so that the stack that it takes for its text is not taken while rows are traced.
+#[inline(never)]
 fn tell(rt: &impl System, run: Run) -> Result<(), Said> {
     let mut output = [0u8; OUTPUT];
     let closed = run.close(&mut output);
