@@ -63,12 +63,6 @@ FUNCTION = re.compile(
     re.M | re.S,
 )
 
-# A private function's head, with what it asks of a closure that it takes.
-CALLABLE = re.compile(
-    r"^ *fn \w+<F: Fn[^{]*?\n *requires \{ F\.(?:pre|IsAlwaysCallable)\b"
-    r"[^\n]*\}$", re.M
-)
-
 # A public function's head and contract, without its body.
 CONTRACT = re.compile(
     r"^ *pub fn [^\n]*\n(?: *(?:ensures|requires)[^\n]*\n)+", re.M
@@ -337,12 +331,10 @@ def contracts_shown() -> Iterator[Tuple[str, str]]:
 
 
 def check_conditions() -> List[Result]:
-    """Each library, and whether its functions ask for nothing, but for a
-    private one that a closure which it takes may be called."""
+    """Each library, and whether its functions ask for nothing."""
     return [
         (f"{crate} has no requires",
-         not re.search(r"^\s*requires\b",
-                       CALLABLE.sub("", texts(crate, "src", ".rt")), re.M))
+         not re.search(r"^\s*requires\b", texts(crate, "src", ".rt"), re.M))
         for crate in crates()
     ]
 

@@ -165,13 +165,17 @@ def reads_clauses() -> bool:
 
 def asks_for_nothing() -> bool:
     """A function that requires something is refused, whatever is said of it
-    in a comment."""
+    in a comment; a private one too, and be it that a closure which it takes
+    may be called."""
     before = check_promises.check_conditions()
     file = tree.CRATES / "high/src/lib.rt"
     file.write_text("pub fn f()\n    requires { x }\n{\n}\n")
     after = check_promises.check_conditions()
+    file.write_text("fn f<F: Fn()>(g: F)\n    requires { F.pre g }\n{\n}\n")
+    private = check_promises.check_conditions()
     return [good for _, good in before] == [True, True] \
-        and [good for _, good in after] == [True, False]
+        and [good for _, good in after] == [True, False] \
+        and [good for _, good in private] == [True, False]
 
 
 def refused_in(name: str, text: str) -> bool:
