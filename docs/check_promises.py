@@ -30,7 +30,7 @@ import textwrap
 from pathlib import Path
 from typing import Dict, Iterator, List, Tuple
 
-from docs.edits import Wrong, edits, name_of, wrongs
+from docs.edits import Wrong, each_by_itself, edits, name_of, wrongs
 from docs.shapes import Function, clauses_in, one_result
 from docs.tree import CRATES, TOP, count, crates
 
@@ -340,10 +340,15 @@ def check_conditions() -> List[Result]:
 
 
 def check_edits() -> List[Result]:
-    """Each edit, and whether it is named after what is wrong in it."""
+    """Each edit, and whether it is named after what is wrong in it, and has
+    no two wrong programs of one function."""
     return [
         (f"{path.relative_to(TOP)} is called {name_of(path)}",
          path.stem == name_of(path))
+        for path in edits()
+    ] + [
+        (f"{path.relative_to(TOP)} has one wrong program of a function",
+         each_by_itself(path))
         for path in edits()
     ]
 
