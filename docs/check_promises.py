@@ -30,7 +30,7 @@ import textwrap
 from pathlib import Path
 from typing import Dict, Iterator, List, Tuple
 
-from docs.edits import Wrong, edits, name_of, wrongs
+from docs.edits import Wrong, each_by_itself, edits, name_of, wrongs
 from docs.shapes import Function, clauses_in, one_result
 from docs.tree import CRATES, TOP, count, crates
 
@@ -61,12 +61,6 @@ FUNCTION = re.compile(
     r"^impl (\w+)|"
     r"^( *)pub (?:extern \"C\" )?fn (\w+)\b(.*?)(?: \{\n|\n\2\{)",
     re.M | re.S,
-)
-
-# A private function's head, with what it asks of a closure that it takes.
-CALLABLE = re.compile(
-    r"^ *fn \w+<F: Fn[^{]*?\n *requires \{ F\.(?:pre|IsAlwaysCallable)\b"
-    r"[^\n]*\}$", re.M
 )
 
 # A public function's head and contract, without its body.
@@ -337,21 +331,24 @@ def contracts_shown() -> Iterator[Tuple[str, str]]:
 
 
 def check_conditions() -> List[Result]:
-    """Each library, and whether its functions ask for nothing, but for a
-    private one that a closure which it takes may be called."""
+    """Each library, and whether its functions ask for nothing."""
     return [
         (f"{crate} has no requires",
-         not re.search(r"^\s*requires\b",
-                       CALLABLE.sub("", texts(crate, "src", ".rt")), re.M))
+         not re.search(r"^\s*requires\b", texts(crate, "src", ".rt"), re.M))
         for crate in crates()
     ]
 
 
 def check_edits() -> List[Result]:
-    """Each edit, and whether it is named after what is wrong in it."""
+    """Each edit, and whether it is named after what is wrong in it, and has
+    no two wrong programs of one function."""
     return [
         (f"{path.relative_to(TOP)} is called {name_of(path)}",
          path.stem == name_of(path))
+        for path in edits()
+    ] + [
+        (f"{path.relative_to(TOP)} has one wrong program of a function",
+         each_by_itself(path))
         for path in edits()
     ]
 

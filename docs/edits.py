@@ -5,9 +5,11 @@ An edit holds one wrong program or several. A line `wrong: NAME in FUNCTION`
 begins one, and the pairs after it are its own; FUNCTION is the function whose
 promise it breaks, as `Wheel::tick` or `decode`. Since the prover looks at each
 function by itself, against its own promise, the wrong programs of one edit are
-refused each by itself. An edit without such a line is one wrong program, with
-the name of its file, and of no function. An edit of several is named after the
-first and how many more it holds. Imported by the checks; it is no program.
+refused each by itself. Two of one function would be refused together, and
+which of them is wrong nobody would see, so each function has one at most in an
+edit. An edit without such a line is one wrong program, with the name of its
+file, and of no function. An edit of several is named after the first and how
+many more it holds. Imported by the checks; it is no program.
 """
 
 from __future__ import annotations
@@ -81,3 +83,9 @@ def name_of(path: Path) -> str:
     """The name that an edit should have, after what is wrong in it."""
     first, *more = [wrong.name for wrong in wrongs_of(path)]
     return f"{first}_and_{len(more)}_more" if more else first
+
+
+def each_by_itself(path: Path) -> bool:
+    """Whether the wrong programs of an edit are of a function each."""
+    functions = [wrong.function for wrong in wrongs_of(path)]
+    return len(set(functions)) == len(functions)

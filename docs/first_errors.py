@@ -38,7 +38,8 @@ from words.built import kit, reached
 # How the prover says that a name or a field is not there, that a file cannot
 # be read, that a proof stands on one that was refused, or that it gave up.
 NO_FACT = re.compile(
-    r"has no (field )?`|is not in scope|cannot be named|can be named|no such|"
+    r"has no (field )?`|is not a field of|is not in scope|cannot be named|"
+    r"can be named|no such|"
     r"unknown-|not found|was not admitted|met a bound|gave up|ran out of|"
     r"(step|memory) limit"
 )
@@ -90,7 +91,8 @@ def stretch_of(source: str, function: str) -> Stretch:
     is not there."""
     kind, first, above = "", 0, 0
     for at, line in enumerate(source.splitlines(), 1):
-        block = re.match(r"impl (\w+)", line)
+        # A method of a trait is named after the type that has it.
+        block = re.match(r"impl (?:\w+ for )?(\w+)", line)
         kind = block.group(1) if block else kind
         begin = FUNCTION.search(line.partition("//")[0])
         if begin and first:

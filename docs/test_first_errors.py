@@ -19,6 +19,7 @@ from docs.first_errors import judge
 WRONG = Wrong("crate", "first", "gives_the_length", "stop_timer")
 WRONG_BEFORE = Wrong("crate", "first", "two_ticks", "tick")
 WRONG_EXPORTED = Wrong("crate", "first", "three", "stopped")
+WRONG_METHOD = Wrong("crate", "first", "four", "Late::left")
 DEFINITION = Wrong("crate", "first", "first", "")
 # As the prover says where it looks, at the beginning of a line.
 PROOF = "./proofs/stop_timer/Answers.antt:57:5: error: `returns`: "
@@ -48,6 +49,18 @@ pub extern "C" fn started() -> u8
 {
     2
 }
+
+impl Timed for Early {
+    fn left(self) -> u8 {
+        2
+    }
+}
+
+impl Timed for Late {
+    fn left(self) -> u8 {
+        4
+    }
+}
 """
 
 # What is tried, the wrong program, what the prover said, and whether that
@@ -64,6 +77,8 @@ CASES: List[Tuple[str, Wrong, str, bool]] = [
      PROOF + "record `After-left` has no field `left`\n", False),
     ("a missing field in the next line", WRONG,
      PROOF + "record `After-left`\n  has no field `left`\n", False),
+    ("a field that another record has", WRONG,
+     PROOF + "`0` is not a field of record `Prim.Unit`\n", False),
     ("a missing name", WRONG, PROOF + "`left` is not in scope\n", False),
     ("a goal that is not there", WRONG,
      PROOF + "module `Goals` has no `returns-then-n-lt2` that can be named "
@@ -105,6 +120,10 @@ CASES: List[Tuple[str, Wrong, str, bool]] = [
      "note: src/lib.rt:10:1: " + UNPROVED + "\n", True),
     ("one that it made, at the next function's attribute", WRONG_EXPORTED,
      "note: src/lib.rt:16:1: " + UNPROVED + "\n", False),
+    ("one that it made, of a type's method of a trait", WRONG_METHOD,
+     "note: src/lib.rt:29:5: " + UNPROVED + "\n", True),
+    ("one that it made, of another type's", WRONG_METHOD,
+     "note: src/lib.rt:23:5: " + UNPROVED + "\n", False),
     ("a definition", DEFINITION, LAW + "the two types differ\n", True),
     ("a definition that lacks a name", DEFINITION,
      LAW + "`old` is not in scope\n", False),

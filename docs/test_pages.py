@@ -80,6 +80,16 @@ def names_of_edits() -> bool:
         == ["a_and_1_more", "c"]
 
 
+def each_for_itself() -> bool:
+    """An edit with two wrong programs of one function is refused, and no
+    other one is."""
+    before = [edits.each_by_itself(path) for path in edits.edits()]
+    file = tree.CRATES / "high/must-fail/a_and_1_more.edit"
+    file.write_text("file: src/lib.rt\nwrong: a in f\nwrong: b in f\n")
+    after = [good for _, good in check_promises.check_edits()]
+    return before == [True, True] and after == [True, True, False, True]
+
+
 def blocks_of(block: str, asked: Sequence[Tuple[str, str]] = ()) -> List[bool]:
     """Whether the paragraphs of a block are held to be in their file, and
     whether what is asked for is held to be shown."""
@@ -165,13 +175,17 @@ def reads_clauses() -> bool:
 
 def asks_for_nothing() -> bool:
     """A function that requires something is refused, whatever is said of it
-    in a comment."""
+    in a comment; a private one too, and be it that a closure which it takes
+    may be called."""
     before = check_promises.check_conditions()
     file = tree.CRATES / "high/src/lib.rt"
     file.write_text("pub fn f()\n    requires { x }\n{\n}\n")
     after = check_promises.check_conditions()
+    file.write_text("fn f<F: Fn()>(g: F)\n    requires { F.pre g }\n{\n}\n")
+    private = check_promises.check_conditions()
     return [good for _, good in before] == [True, True] \
-        and [good for _, good in after] == [True, False]
+        and [good for _, good in after] == [True, False] \
+        and [good for _, good in private] == [True, False]
 
 
 def refused_in(name: str, text: str) -> bool:
@@ -244,6 +258,7 @@ TRIALS: Sequence[Tuple[str, Callable[[], bool]]] = (
     ("the reading list follows what is said", follows_what_is_said),
     ("the crates of a tree", knows_the_crates),
     ("the names of edits", names_of_edits),
+    ("the wrong programs of an edit", each_for_itself),
     ("the blocks of a page", holds_blocks),
     ("what a page has to show", holds_what_is_shown),
     ("the contracts that it has to show", shows_contracts),

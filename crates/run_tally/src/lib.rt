@@ -227,8 +227,7 @@ pub fn run_rows_by_value(setup: &[u8], rows: &[u8], repeats: u64) -> u64
     ensures { result ≡ sum_of setup.now rows.now repeats }
 {
     let engine = Engine::boot();
-    let first = Tally { engine, sum: 0 };
-    sum_by(first, setup, rows, repeats)
+    sum_by(Tally { engine, sum: 0 }, setup, rows, repeats)
 }
 
 // The same sum as `run_rows`, by public calls.
@@ -236,6 +235,5 @@ pub fn run_rows_by_calls(setup: &[u8], rows: &[u8], repeats: u64) -> u64
     ensures { result ≡ sum_of setup.now rows.now repeats }
 {
     let kernel = Kernel::boot();
-    let first = Called { kernel, sum: 0 };
-    sum_by(first, setup, rows, repeats)
+    sum_by(Called { kernel, sum: 0 }, setup, rows, repeats)
 }

@@ -68,12 +68,10 @@ pub struct Waiting {
     pub set: Queues,
 }
 
-// The links, and the set with what a change makes of the links and of its queue of priority p.
-fn changed<F: FnOnce(Links, Queue) -> Linked>(links: Links, set: Queues, p: u8, change: F) -> Joined
-    requires { F.pre change links (level_model set p) }
-    ensures { (linked : Linked) × F.post change links (level_model set p) linked × (result ≡ joined set p linked) }
+// The links after a change, and the set with the queue of priority p after it.
+fn with_linked(set: Queues, p: u8, linked: Linked) -> Joined
+    ensures { result ≡ joined set p linked }
 {
-    let linked = change(links, set.level(p));
     Joined {
         links: linked.links,
         set: set.with_level(p, linked.queue),
@@ -85,7 +83,7 @@ fn changed<F: FnOnce(Links, Queue) -> Linked>(links: Links, set: Queues, p: u8, 
 pub fn join(links: Links, set: Queues, p: u8, t: u8) -> Joined
     ensures { result ≡ join_model links set p t }
 {
-    changed(links, set, p, |links, queue| links.back(queue, t))
+    with_linked(set, p, links.back(set.level(p), t))
 }
 
 // Thread t arrives at the front of the queue of priority p.
@@ -93,7 +91,7 @@ pub fn join(links: Links, set: Queues, p: u8, t: u8) -> Joined
 fn join_front(links: Links, set: Queues, p: u8, t: u8) -> Joined
     ensures { result ≡ join_front_model links set p t }
 {
-    changed(links, set, p, |links, queue| links.front(queue, t))
+    with_linked(set, p, links.front(set.level(p), t))
 }
 
 // The first of the queue of priority p leaves.
@@ -101,7 +99,7 @@ fn join_front(links: Links, set: Queues, p: u8, t: u8) -> Joined
 fn depart(links: Links, set: Queues, p: u8) -> Joined
     ensures { result ≡ depart_model links set p }
 {
-    changed(links, set, p, |links, queue| links.leave(queue))
+    with_linked(set, p, links.leave(set.level(p)))
 }
 
 // Thread t leaves the queue of priority p from wherever it stands there.
@@ -109,7 +107,7 @@ fn depart(links: Links, set: Queues, p: u8) -> Joined
 fn remove(links: Links, set: Queues, p: u8, t: u8) -> Joined
     ensures { result ≡ remove_from_model links set p t }
 {
-    changed(links, set, p, |links, queue| links.remove(queue, t))
+    with_linked(set, p, links.remove(set.level(p), t))
 }
 
 // The first of the highest non-empty queue.
