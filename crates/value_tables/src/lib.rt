@@ -4,12 +4,10 @@
 #![tactic(auto)]
 
 ghost use Rattle.std.specs.Prelude.{◌≡◌};
-ghost use Rattle.queue.specs.declared.Linked.{Linked};
-ghost use Rattle.queue.specs.Linking.{level_model};
 ghost use Rattle.value_tables.specs.Tables.{joined, join_model, join_front_model, depart_model, remove_from_model, head_model, stand_model, lift_model, arrive_model, arrive_in_front_model, run_first_model, choose_next_model, wait_model, leave_model_in, remove_model_in};
 
 use limits::{FOR_MUTEX, NONE, PRIORITIES, READY, RUNNING, THREAD_ROWS, THREADS};
-use queue::{Linked, Links, Queue, Queues};
+use queue::{Linked, Links, Queues};
 
 // Links, and one set of queues.
 #[derive(Clone, Copy)]
