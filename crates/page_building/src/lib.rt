@@ -54,7 +54,7 @@ fn running_row(row: ThreadRow, mutexes: MutexTable, t: u8) -> Thread
     }
 }
 
-// The rows of n threads, none of which stands in a queue.
+// The rows of n threads, none of which stands in a queue. A loop over those in use, since a table made entry by entry works out all 32.
 fn thread_rows(rows: ThreadRows, mutexes: MutexTable, n: u8) -> ThreadTable
     ensures { result ≡ thread_rows rows mutexes n }
 {
