@@ -85,9 +85,15 @@ fn tell(rt: &impl System, run: Run) -> Result<(), Said> {
     )
 }
 
+// The run from the record that is named second. Not inlined, so that the stack that it takes to read it is not taken while rows are traced.
+#[inline(never)]
+fn started(rt: &impl System) -> Result<Run, Said> {
+    start_named(rt, 2)
+}
+
 // Traces from the record that is named second.
 fn trace_from(rt: &impl System) -> Result<(), Said> {
-    let run = start_named(rt, 2)?;
+    let run = started(rt)?;
     if run.answer() != 0 {
         return tell(rt, run);
     }
